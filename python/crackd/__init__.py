@@ -1,8 +1,8 @@
-"""A table of rows in memory that needs no index: it sorts itself as it is queried.
+"""A cracked table: rows in memory that each query sorts a little further, so that no index need be built.
 
-`Table` is one in this process, `connect` connects to one on a server, `serve` starts such a server, and
-`crackd.cluster.Table` spreads one over a Dask cluster. All have the same methods. Keys are integers, floats or numpy
-dates; payloads are integers of 64 bits. `load_csv` reads a table from a file. numpy is used if it is installed.
+`Table` is a table in this process. `connect` connects to a table on a server, `serve` starts a server, and
+`crackd.cluster.Table` spreads a table over a Dask cluster. All tables have the same methods. Keys are integers, floats
+or numpy dates. Payloads are signed 64-bit integers. `load_csv` reads a table from a file. numpy is used if installed.
 """
 
 from .aio import AsyncTable, connect_async

@@ -1,6 +1,7 @@
 """usage: python3 -m crackd COMMAND ..
 
   shell              a shell over a server, of its own or another
+  top                the numbers of a server, on a screen or for Prometheus
   splits FILE.csv N  prints where to cut keys into partitions, for `crackd serve`
   picture SCRIPT     draws a column as the queries of a script crack it, as SVG
 
@@ -22,6 +23,7 @@ from .errors import Error
 from .keys import quantiles
 from .picture import main as picture
 from .server import called, find_program
+from .top import main as top
 
 OF_THE_PROGRAM = ("script", "batch", "serve", "csv")
 
@@ -62,7 +64,7 @@ def splits(words: list[str]) -> int:
 
 
 def handed(words: list[str]) -> int:
-    """Goes on as the program crackd."""
+    """Replaces this process by the program crackd, which gets the same arguments."""
     path = find_program()
     os.execv(path, [path, *words])
 
@@ -75,7 +77,7 @@ def main(words: list[str]) -> int:
         from .shell import main as shell
 
         return shell(words[1:])
-    commands: dict[str, Callable[[list[str]], int]] = {"splits": splits, "picture": picture}
+    commands: dict[str, Callable[[list[str]], int]] = {"splits": splits, "picture": picture, "top": top}
     commands |= dict.fromkeys(OF_THE_PROGRAM, lambda _: handed(words))
     if not words or words[0] not in commands:
         is_help = words[:1] in (["--help"], ["-h"])

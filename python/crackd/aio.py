@@ -1,4 +1,4 @@
-"""A table on a server for asyncio: many tasks share a connection, and none waits for the replies to another's calls."""
+"""A table on a server for asyncio: many tasks share a connection, and no call waits for another task's replies."""
 
 from __future__ import annotations
 
@@ -23,23 +23,23 @@ from .typed import Counts, Flags, Progress, RowNumbers, Self, Sums
 
 
 class Waiting:
-    """Statements whose replies haven't all come: how many lines these have, and the future that gets them."""
+    """Statements whose replies haven't all come: how many lines are missing, and the future that gets all lines."""
 
     def __init__(self, lines: int, loop: asyncio.AbstractEventLoop):
         self.lines, self.said, self.replies = lines, b"", loop.create_future()
 
     def take(self, lines: Lines) -> bool:
-        """Takes the lines that are there, if they are enough. Returns whether all have come."""
+        """Takes the reply's lines once enough have arrived. Returns whether the whole reply has come."""
         while self.lines and lines.feeds >= self.lines:
             said = lines.taken(self.lines)
             self.said, self.lines = self.said + said, wire.listed(said) if not self.said else 0
         if not self.lines and not self.replies.done():
-            # (a task that was cancelled no longer waits)
+            # the future is done already if its task was cancelled
             self.replies.set_result(self.said)
         return not self.lines
 
     def fail(self, error: Disconnected, given: bytes) -> None:
-        """Raises an error where the replies are waited for, with the lines that had come."""
+        """Raises a copy of an error in the task that waits for the replies. Its `given` has the lines that had come."""
         if not self.replies.done():
             fault: Any = type(error)(str(error))
             fault.given = self.said + given
@@ -47,22 +47,22 @@ class Waiting:
 
 
 class Line:
-    """A connection: statements go out at once, and replies come back in their order."""
+    """A connection. Statements are sent without waiting, and replies come in the order of the statements."""
 
     def __init__(self, reader: asyncio.StreamReader, writer: asyncio.StreamWriter, timeout: Optional[float]):
         self._timeout, self._reader, self._writer = timeout, reader, writer
         self._lines, self._waiting = Lines(), collections.deque[Waiting]()
         self._unsent: list[bytes] = []
-        # (why nothing can be sent any more)
+        # why nothing can be sent any more, or None
         self._fault: Optional[Error] = None
-        # (since when the server is silent, and the call that looks whether this is too long)
+        # when the server last sent something, or the wait began; `_look` is the scheduled call of `_watch`
         self._loop, self._since = asyncio.get_running_loop(), 0.0
         self._look: Optional[asyncio.TimerHandle] = None
         self._receiving = asyncio.ensure_future(self._receive())
 
     @property
     def timeout(self) -> Optional[float]:
-        """How many seconds the server may be silent while replies are waited for."""
+        """How many seconds the server may be silent while a call waits for replies."""
         return self._timeout
 
     @timeout.setter
@@ -78,17 +78,17 @@ class Line:
             raise type(self._fault)(str(self._fault))
 
     def leave(self) -> None:
-        """Lets go of the connection in a forked child. (It shares the loop's list of connections with its parent.)"""
+        """Gives up the connection in a forked child, without closing it: parent and child share the loop's selector."""
         self._fault = Forked(OF_THE_PARENT)
 
     async def exchange(self, text: bytes, lines: int) -> bytes:
-        """Sends statements, and returns that many lines of replies, and those that the last one announces."""
+        """Sends statements. Returns `lines` lines of replies, and the further lines that the last one announces."""
         self.check_open()
         if not self._waiting:
             self._since = self._loop.time()
         waiting = Waiting(lines, self._loop)
         self._waiting.append(waiting)
-        # (what the tasks of a turn of the loop say is sent at once)
+        # statements of all tasks that run in one iteration of the loop are sent together
         if not self._unsent:
             self._loop.call_soon(self._send)
         self._unsent.append(text)
@@ -104,7 +104,7 @@ class Line:
             self._writer.write(text)
 
     def _watch(self) -> None:
-        """Ends the connection if the server has been silent for too long, and else looks again in time."""
+        """Closes the connection if the server has been silent for too long, or else schedules the next check."""
         self._look = None
         if self._timeout is None or not self._waiting:
             return
@@ -116,7 +116,7 @@ class Line:
         self._end(TimedOut(said))
 
     async def _receive(self) -> None:
-        """Gives lines to those who wait for them, until the server or this side closes the connection."""
+        """Passes lines to the calls that wait for them, until the server or this side closes the connection."""
         with contextlib.suppress(OSError):
             while given := await self._reader.read(BYTES_AT_ONCE):
                 self._since = self._loop.time()
@@ -129,7 +129,7 @@ class Line:
             self._waiting.popleft()
 
     def _end(self, error: Disconnected) -> None:
-        """Closes the connection, and tells those who wait why."""
+        """Closes the connection, and raises the error in each call that waits."""
         self._fault = Closed("the connection is closed; connect again")
         given = self._lines.taken(self._lines.feeds)
         while self._waiting:
@@ -140,7 +140,7 @@ class Line:
         self._writer.close()
 
     async def close(self) -> None:
-        """Ends the session with the server, after what was asked before."""
+        """Ends the session with the server once it has answered all earlier statements."""
         try:
             await self.exchange(b"quit\n", 1)
         except (Disconnected, Closed):
@@ -152,13 +152,13 @@ class Line:
 
 
 class Shared(RemoteTable):
-    """A table over a line. Its methods are those of `AnyTable`, and what they return can be awaited."""
+    """A table over a `Line`. Its methods are those of `AnyTable`, but return awaitables."""
 
     def __init__(self, line: Line, keys: Keys, policy: str, peer: str):
         self.line, self._keys, self._policy, self._peer, self._lock = line, keys, policy, peer, None
 
     async def _say(self, steps: wire.Exchanges) -> Any:
-        """Drives a conversation with the server. Those of other tasks go on beside it."""
+        """Runs a conversation with the server, concurrently with those of other tasks."""
         try:
             request = next(steps)
             while True:
@@ -175,7 +175,7 @@ class Shared(RemoteTable):
         return self._driven(steps)
 
     async def _driven(self, steps: Steps[Any]) -> Any:
-        """What a method returns that is written as steps."""
+        """Runs the steps of a method and returns its result."""
         try:
             asked = next(steps)
             while True:
@@ -210,9 +210,9 @@ class Shared(RemoteTable):
 class AsyncTable:
     """A table on a server for the tasks of an event loop: see `connect_async`.
 
-    Its methods are those of `crackd.Client`, and are awaited; their arguments, answers and errors are the same. Calls
-    of several tasks are sent as they come, without waiting for each other's replies. A task that is cancelled leaves
-    the connection as it is: what it had sent is done nevertheless, and a move to its end.
+    Its methods are those of `crackd.Client` and are awaited. Their arguments, results and errors are the same. Calls of
+    several tasks are sent at once, without waiting for each other's replies. If a task is cancelled the connection
+    stays usable. The server still does what the task had sent, and a `move` is completed.
     """
 
     def __init__(self, table: Shared):
@@ -226,12 +226,12 @@ class AsyncTable:
 
     @property
     def policy(self) -> str:
-        """How rows are merged."""
+        """How queries merge pending rows."""
         return self._table.policy
 
     @property
     def timeout(self) -> Optional[float]:
-        """How many seconds a call waits for a server that is silent, or None for ever; it may be changed."""
+        """How many seconds a call waits for a silent server; None waits for ever. It may be changed."""
         return self._table.line.timeout
 
     @timeout.setter
@@ -239,8 +239,13 @@ class AsyncTable:
         self._table.line.timeout = seconds
 
     async def ping(self) -> None:
-        """Asks the server for a sign of life."""
+        """Checks that the server answers. Raises `Disconnected` if it doesn't."""
         await _awaited(self._table.ping())
+
+    async def stats(self, part: Optional[int] = None) -> dict[str, int]:
+        """Returns numbers of the table and its server by name, or those of partition `part`."""
+        numbers: dict[str, int] = await _awaited(self._table.stats(part))
+        return numbers
 
     async def insert(self, key: Any, payload: int) -> int:
         return await _awaited(self._table.insert(key, payload))
@@ -272,7 +277,7 @@ class AsyncTable:
         return await _awaited(self._table.update_many(rows, keys, payloads))
 
     async def move(self, row: int, key: Any) -> Optional[int]:
-        # (a task that is cancelled between the deletion and the insertion would lose the row)
+        # if the task were cancelled between the deletion and the insertion, the row would be lost
         moving = asyncio.ensure_future(_awaited(self._table.move(row, key)))
         self._moving.add(moving)
         moving.add_done_callback(self._moving.discard)
@@ -346,14 +351,14 @@ class AsyncTable:
 
 
 async def _awaited(asked: Answer) -> Answer:
-    """The answer of a call, whose type is that of the method that isn't awaited."""
+    """Awaits the result of a call, and gives it the type that the synchronous method returns."""
     awaited: Any = asked
     answer: Answer = await awaited
     return answer
 
 
 for _name, _method in vars(AsyncTable).items():
-    # (a method's documentation is that of the one that isn't awaited)
+    # a method without a docstring gets that of the synchronous method
     if not _name.startswith("_") and inspect.isfunction(_method) and not _method.__doc__:
         _method.__doc__ = getattr(RemoteTable, _name).__doc__
 
@@ -366,9 +371,9 @@ async def connect_async(
     policy: str = POLICY,
     timeout: Optional[float] = None,
 ) -> AsyncTable:
-    """Connects to the table of a `crackd serve`, for the tasks of the running event loop.
+    """Connects to the table of a server that `crackd serve` runs, for the tasks of the running event loop.
 
-    Parameters, errors and the table's methods are those of `connect`; methods are awaited.
+    Parameters and errors are those of `connect`. The table's methods are awaited.
     """
     if policy not in POLICIES:
         raise ValueError(f"policy must be one of {', '.join(POLICIES)}, not {policy}")

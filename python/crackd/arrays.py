@@ -1,7 +1,7 @@
-"""Arrays of numbers: numpy's if it is installed, else those of the module `array`.
+"""Arrays of numbers: numpy arrays if numpy is installed, else those of the module `array`.
 
-Each array that goes to the library is a copy that this package owns, contiguous and of the right type, so that a
-caller that changes its own meanwhile does no harm.
+Each array that is passed to the library is this package's own copy, contiguous and of the right type. So the caller
+may change its arrays during a call.
 """
 
 from __future__ import annotations
@@ -20,7 +20,7 @@ except ImportError:
 SIGN = 1 << 63
 TOP = 1 << 64
 _SOMEWHERE = array.array("Q", [0])
-# (numpy's spans of time count as integers in Python)
+# types that Python takes for integers, but that aren't accepted: bool, and numpy's timedelta64
 NO_NUMBERS = (bool,) if np is None else (bool, np.bool_, np.timedelta64)
 MOST_SHOWN = 40
 # type codes of the module `array`, with their names in numpy
@@ -28,18 +28,20 @@ DTYPES = {"Q": "uint64", "q": "int64", "I": "uint32", "B": "uint8", "d": "float6
 
 
 def is_array(it: Any) -> bool:
-    """Whether it is a numpy array, or can become one, like a column of pandas."""
+    """Whether this is a numpy array or can be converted to one, like a pandas column."""
     return np is not None and (isinstance(it, (np.ndarray, np.generic)) or hasattr(it, "__array__"))
 
 
 def type_of_numpy(dtype: Any) -> Any:
-    """A type of items as numpy has it: for integers of pandas that may be missing that of the others, for dates with a
-    time zone that of dates."""
+    """The numpy type for a type of items.
+
+    For pandas' nullable integers it is the plain integer type, and for dates with a time zone that of dates without.
+    """
     return getattr(dtype, "numpy_dtype", getattr(dtype, "base", dtype))
 
 
 def as_flat(it: Any) -> Any:
-    """The same as a numpy array of one dimension. Masked and missing items are an error."""
+    """Converts to a numpy array of one dimension. Raises ValueError if an item is masked or missing."""
     dtype = getattr(it, "dtype", None)
     if dtype is not None and not isinstance(dtype, np.dtype) and isinstance(type_of_numpy(dtype), np.dtype):
         return _of_pandas(it, type_of_numpy(dtype))
@@ -54,7 +56,7 @@ def as_flat(it: Any) -> Any:
 
 
 def _of_pandas(it: Any, dtype: Any) -> Any:
-    """A column of pandas whose items may be missing, or have a time zone; they are then in UTC."""
+    """Converts a pandas column of a nullable type, or of dates with a time zone, which become UTC."""
     if dtype.kind == "M":
         return np.asarray(it, dtype=dtype)
     is_missing = np.asarray(it.isna())
@@ -64,7 +66,7 @@ def _of_pandas(it: Any, dtype: Any) -> Any:
 
 
 def items_of(it: Any, what: str) -> Any:
-    """Items as an array of numpy or as a list. Bytes and text aren't items, and an array of objects is like a list."""
+    """Items as a numpy array or a list. An array of objects becomes a list. Bytes and text raise TypeError."""
     if isinstance(it, (str, bytes, bytearray)) or isinstance(it, memoryview) and it.itemsize == 1:
         raise TypeError(f"{what} must be in a list or an array, not in {type(it).__name__}")
     if not is_array(it):
@@ -79,7 +81,7 @@ def types_of(items: Any) -> set[type]:
 
 
 def whole(number: Any, what: str) -> int:
-    """An integer of Python or numpy as one of Python. Anything else is an error, also a bool."""
+    """Converts an integer of Python or numpy to int. Raises TypeError for anything else, including bool."""
     try:
         if not isinstance(number, NO_NUMBERS):
             return operator.index(number)
@@ -89,24 +91,24 @@ def whole(number: Any, what: str) -> int:
 
 
 def shown(it: Any) -> str:
-    """A value in an error, cut after some characters."""
+    """A value as the text of an error shows it, cut after `MOST_SHOWN` characters."""
     try:
         text = str(it)
     except ValueError:
-        # (Python itself refuses to write integers of more than some thousand digits)
+        # Python refuses to print integers of more than some thousand digits
         return f"a number of {it.bit_length()} bits" if isinstance(it, int) else f"a {type(it).__name__} of many digits"
     return text if len(text) <= MOST_SHOWN else text[:MOST_SHOWN] + ".."
 
 
 def empty(code: str, size: int) -> Any:
-    """An array for this many numbers, which aren't set."""
+    """A new array of this many numbers, whose values are arbitrary."""
     if np is not None:
         return np.empty(size, dtype=DTYPES[code])
     return array.array(code, bytes(size * array.array(code).itemsize))
 
 
 def from_ints(code: str, numbers: Iterable[int], what: str) -> Any:
-    """A new array of integers that are given one by one."""
+    """A new array of the integers of an iterable."""
     try:
         found = array.array(code, numbers)
     except TypeError:
@@ -119,8 +121,10 @@ def from_ints(code: str, numbers: Iterable[int], what: str) -> Any:
 
 
 def ints(code: str, numbers: Any, what: str) -> Any:
-    """A new array of these integers, unsigned for the code "Q" and signed for "q". One that doesn't fit is an error,
-    and so is a bool."""
+    """A new array of these integers, unsigned for the code "Q" and signed for "q".
+
+    Raises OverflowError if one doesn't fit, and TypeError for other types, including bool.
+    """
     given = items_of(numbers, what)
     if not is_array(given):
         if not types_of(given).isdisjoint(NO_NUMBERS):
@@ -138,7 +142,7 @@ def ints(code: str, numbers: Any, what: str) -> Any:
 
 
 def address(it: Any) -> tuple[int, int]:
-    """The address of an array of this package's own, and its length. Even an empty one has an address."""
+    """The address and length of an array that this package made. The address is never NULL, not even if it is empty."""
     if np is not None:
         if not (it.flags.c_contiguous and it.flags.aligned and it.ndim == 1):
             raise ValueError("an array isn't laid out as the library needs it")
@@ -148,25 +152,25 @@ def address(it: Any) -> tuple[int, int]:
 
 
 def flags(it: Any) -> Any:
-    """Bytes of 0 and 1 as booleans."""
+    """Bytes 0 and 1 as booleans."""
     return it.view(bool) if np is not None else [bool(each) for each in it]
 
 
 def plain(it: Any) -> list[Any]:
-    """An array as a list of Python's numbers."""
+    """An array as a list of Python numbers."""
     found: list[Any] = it.tolist() if hasattr(it, "tolist") else it
     return found
 
 
 def parsed(code: str, text: bytes) -> Any:
-    """Integers written in decimal, with white space between them."""
+    """An array of the decimal integers in a text, which are separated by white space."""
     if np is not None:
         return np.fromstring(text, dtype=DTYPES[code], sep=" ") if text.strip() else np.empty(0, dtype=DTYPES[code])
     return array.array(code, map(int, text.split()))
 
 
 def joined_text(form: str, *columns: Sequence[int]) -> bytes:
-    """One text for all rows of these columns, each formatted by `form`."""
+    """One text for all rows of these columns, where each row is formatted by `form`."""
     rows = len(columns[0])
     if len(columns) == 1:
         words = plain(columns[0])

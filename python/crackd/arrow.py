@@ -1,6 +1,6 @@
 """Reads columns of numbers and dates from Arrow's C stream interface, which needs no library.
 
-https://arrow.apache.org/docs/format/CStreamInterface.html has the structures, and the page beside it the formats.
+https://arrow.apache.org/docs/format/CStreamInterface.html defines the structures, and CDataInterface.html the formats.
 """
 
 from __future__ import annotations
@@ -12,7 +12,7 @@ from typing import Any, Iterator, Optional, Sequence, Union
 
 from .arrays import np, whole
 
-# the formats of columns that can be keys or payloads, and the type of their items in numpy
+# the formats of columns that can be keys or payloads, with the numpy types of their items
 NUMBERS = {"c": "i1", "C": "u1", "s": "i2", "S": "u2", "i": "i4", "I": "u4", "l": "i8", "L": "u8", "e": "f2"}
 NUMBERS |= {"f": "f4", "g": "f8"}
 DATES = {"tdD": ("i4", "D"), "tdm": ("i8", "ms")}
@@ -70,7 +70,7 @@ Stream._fields_ = [
 
 @contextlib.contextmanager
 def released(it: Any) -> Iterator[Any]:
-    """A structure that is released at the end, if there is something in it."""
+    """A context in which a structure may be used. At its end the structure is released, unless it is empty."""
     try:
         yield it
     finally:
@@ -79,14 +79,14 @@ def released(it: Any) -> Iterator[Any]:
 
 
 def stream_of(capsule: Any) -> Stream:
-    """The stream in a capsule, which owns it until it is released."""
+    """The stream in a capsule. The capsule owns the stream until it is released."""
     pointer_of = ctypes.pythonapi.PyCapsule_GetPointer
     pointer_of.argtypes, pointer_of.restype = [ctypes.py_object, c_char_p], c_void_p
     return Stream.from_address(pointer_of(capsule, b"arrow_array_stream"))
 
 
 def filled(stream: Stream, call: Any, it: Any) -> Any:
-    """A structure that a function of a stream fills. A status of the function other than 0 is an error."""
+    """Has a function of the stream fill a structure. Raises OSError if its status isn't 0."""
     code = call(byref(stream), byref(it))
     if code:
         at = stream.get_last_error(byref(stream)) if stream.get_last_error else None
@@ -96,8 +96,8 @@ def filled(stream: Stream, call: Any, it: Any) -> Any:
 
 
 def columns_of_stream(data: Any, wanted: Sequence[Union[str, int]]) -> list[Any]:
-    """These columns, by name or number, as arrays of numpy. A missing item is an error that names the first."""
-    # (the capsule must live as long as the stream)
+    """Reads columns, by name or number, as numpy arrays. Raises ValueError with the place of the first missing item."""
+    # the capsule must live as long as the stream
     capsule = data.__arrow_c_stream__()
     with released(stream_of(capsule)) as stream:
         with released(filled(stream, stream.get_schema, Schema())) as schema:
@@ -113,7 +113,7 @@ def columns_of_stream(data: Any, wanted: Sequence[Union[str, int]]) -> list[Any]
 
 
 class Column:
-    """A column of a stream: where its items are in a batch, and what they are."""
+    """A column of a stream: the place of its items in a batch, and their type."""
 
     def __init__(self, schema: Schema, wanted: Union[str, int]):
         self.is_of_struct = text_of(schema.format) == STRUCT
@@ -132,11 +132,11 @@ class Column:
         return self.typed(np.empty(0, self.dtype))
 
     def typed(self, items: Any) -> Any:
-        """Items as numbers, or as dates of their unit."""
+        """Items as numbers, or as dates in their unit."""
         return items if self.unit is None else items.astype("i8").view(f"datetime64[{self.unit}]")
 
     def items(self, batch: Array, before: int) -> Any:
-        """A copy of the items of a batch, which `before` rows precede."""
+        """A copy of the column's items in a batch. `before` is the number of rows before the batch."""
         own = batch.children[self.place].contents if self.is_of_struct else batch
         if self.is_of_struct:
             self.check_whole(batch, 0, batch.length, before)
@@ -149,7 +149,7 @@ class Column:
         return self.typed(np.frombuffer(text, self.dtype))
 
     def check_whole(self, own: Array, more: int, length: int, before: int) -> None:
-        """Raises an error if one of some items is missing: those from the offset of an array and `more` on."""
+        """Raises ValueError if one of the `length` items from the array's offset plus `more` on is missing."""
         valid = own.buffers[0] if own.n_buffers else None
         if own.null_count == 0 or not valid or not length:
             return
@@ -165,7 +165,7 @@ def text_of(text: Optional[bytes]) -> str:
 
 
 def place_of(names: list[str], wanted: Union[str, int]) -> int:
-    """The place of a column that is wanted by its name or number."""
+    """The place of the column with this name or number."""
     if isinstance(wanted, str):
         if names.count(wanted) != 1:
             raise KeyError(f"there are {names.count(wanted)} columns {wanted!r}; the names are {', '.join(names)}")

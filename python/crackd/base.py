@@ -1,4 +1,4 @@
-"""The methods that all tables share, over keys that are mapped to numbers in their order."""
+"""The methods that all tables share. Inside, keys are numbers that have the order of the keys."""
 
 from __future__ import annotations
 
@@ -23,16 +23,17 @@ POLICY = "auto"
 
 
 def parts_for(rows: int) -> int:
-    """How many partitions a table for this many rows gets."""
+    """The default number of partitions for this many rows."""
     return min(MOST_PARTS, max(rows // ROWS_A_PART, 1))
 
 
 class AnyTable(Questions):
     """A table of rows, each with a key and a payload: in this process, on a server, or on a cluster.
 
-    Ranges are half open, as in Python: `low` is inside and `high` isn't, and None means no end. A low end above its
-    high end is a ValueError. Each row has a number, which stays with it and is never used again. Any thread may call
-    any method; a table answers one call at a time. Close it, or use it in a `with`.
+    Ranges are half open, as in Python: `low` is inside, `high` isn't, and None means no end. A low end above its high
+    end raises ValueError. Each row has a number, which it keeps until it is deleted and which is never reused. Any
+    thread may call any method; a shard of a table answers one call at a time. Close a table, or use it in a `with`
+    statement.
     """
 
     def insert(self, key: Any, payload: int) -> int:
@@ -45,23 +46,24 @@ class AnyTable(Questions):
         Parameters
         ----------
         keys, payloads : array_like
-            Equally long.
+            Of equal length.
 
         Returns
         -------
         array of uint64
-            The numbers of the rows, in this order.
+            The numbers of the rows, in the same order.
 
         Notes
         -----
-        If one is refused, the rows before it are inserted: `done` of the error says how many, and `answers` has their
-        numbers. Any other error that ends the call, such as a KeyboardInterrupt, also has in `answers` the numbers of
+        If a row is refused, the rows before it are inserted: `done` of the error says how many, and `answers` has their
+        numbers. Over TCP and in other shards later rows may be inserted as well: `later` says how many, and `answers`
+        includes them. Any other error that ends the call, such as KeyboardInterrupt, has as `answers` the numbers of
         the rows that are known to be inserted.
         """
         return self._insert_many(*self._row_words(keys, payloads))
 
     def _row_words(self, keys: Any, payloads: Any) -> tuple[Any, Any]:
-        """The numbers of keys, and as many payloads."""
+        """The keys as numbers, and the payloads as an array. Raises ValueError if they differ in length."""
         if len(keys) != len(payloads):
             raise ValueError(f"{len(keys)} keys and {len(payloads)} payloads")
         return self._keys.many(keys), ints("q", payloads, "payloads")
@@ -71,7 +73,7 @@ class AnyTable(Questions):
         return self._delete(row_of(row))
 
     def delete_many(self, rows: Any) -> Flags:
-        """Deletes rows. Returns for each whether it existed, as an array of bool."""
+        """Deletes rows. Returns an array of bool: whether each row existed."""
         return self._drive(self._flags_steps(lambda: self._delete_many(ints("Q", rows, "row numbers"))))
 
     def _flags_steps(self, call: Any) -> Steps[Flags]:
@@ -79,16 +81,16 @@ class AnyTable(Questions):
         return found
 
     def update(self, row: int, key: Any, payload: int) -> bool:
-        """Gives a row a new key and payload. Returns whether it exists.
+        """Gives a row a new key and payload. Returns whether the row exists.
 
-        A key of another partition is refused (`WrongPartition`): `move` takes a row there.
+        Raises `WrongPartition` if the key belongs to another partition; `move` takes a row there.
         """
         return self._update(row_of(row), self._keys.one(key), payload_of(payload))
 
     def update_many(self, rows: Any, keys: Any, payloads: Any) -> Flags:
-        """Updates rows in order. Returns for each whether it exists, as an array of bool.
+        """Updates rows in order. Returns an array of bool: whether each row exists.
 
-        If one is refused, those before it are updated: `done` of the error says how many.
+        If an update is refused, those before it are done: `done` of the error says how many.
         """
         if not len(rows) == len(keys) == len(payloads):
             raise ValueError(f"{len(rows)} row numbers, {len(keys)} keys and {len(payloads)} payloads")
@@ -96,25 +98,28 @@ class AnyTable(Questions):
         return self._drive(self._flags_steps(lambda: self._update_many(*words)))
 
     def count(self, low: Any = None, high: Any = None) -> int:
-        """How many rows have keys in the range."""
+        """Returns the number of rows with keys in the range."""
         first, end = self._keys.ends(low, high)
         return self._count(first, end - 1) if first < end else self._nothing(0)
 
     def count_many(self, lows: Optional[Sequence[Any]], highs: Optional[Sequence[Any]]) -> Counts:
-        """The counts of many ranges, as an array of int64. None in place of a list, or in it, means no end."""
+        """Returns the counts of many ranges, as an array of int64.
+
+        None in a list means that this range has no such end, and None in place of a list that no range has.
+        """
         return self._count_many(*self._keys.ends_many(lows, highs))
 
     def sum(self, low: Any = None, high: Any = None) -> int:
-        """The exact sum of the payloads of the rows with keys in the range."""
+        """Returns the exact sum of the payloads of the rows with keys in the range."""
         first, end = self._keys.ends(low, high)
         return self._sum(first, end - 1) if first < end else self._nothing(0)
 
     def sum_many(self, lows: Optional[Sequence[Any]], highs: Optional[Sequence[Any]]) -> list[int]:
-        """The sums of many ranges, as a list of int, since a sum may need more than 64 bits."""
+        """Returns the sums of many ranges, as a list of int, since a sum may need more than 64 bits."""
         return self._sum_many(*self._keys.ends_many(lows, highs))
 
     def select(self, low: Any = None, high: Any = None) -> Rows:
-        """The rows with keys in the range.
+        """Returns the rows with keys in the range.
 
         Returns
         -------
@@ -130,16 +135,18 @@ class AnyTable(Questions):
         return Rows(rows, self._keys.back(keys), payloads)
 
     def settle(self) -> None:
-        """Merges all pending rows, for example after a load, so that later queries are quick."""
+        """Merges all pending rows, for example after a load, so that later queries needn't."""
         return self._settle()
 
     def checkpoint(self) -> int:
-        """Empties the histories, which frees their memory; rows and their numbers stay. Returns how many entries they
-        had."""
+        """Empties the histories, which frees their memory. Returns how many entries they had.
+
+        Rows and their numbers stay.
+        """
         return self._checkpoint()
 
     def layout(self) -> Layout:
-        """How the rows of each partition are laid out. Print it, or show it in a notebook."""
+        """Returns the layout of each partition. Print it, or show it in a notebook."""
         return self._drive(self._layout_steps())
 
     def _layout_steps(self) -> Steps[Layout]:
@@ -147,7 +154,7 @@ class AnyTable(Questions):
 
     @abc.abstractmethod
     def close(self) -> None:
-        """Frees all that the table took here. A second call does nothing."""
+        """Frees all that the table holds in this process. A second call does nothing."""
 
     def _rows(self) -> int:
         return self.layout().rows

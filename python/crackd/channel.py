@@ -11,23 +11,23 @@ from .errors import Disconnected, TimedOut
 
 BYTES_AT_ONCE = 2**18
 SECONDS_OF_A_STEP = 0.2
-# up to this many lines are looked up one by one
+# up to this many line ends are searched one by one
 FEW_LINES = 100
 LEFT = "the server closed the connection; connect again"
 
 
 def checked_timeout(seconds: Optional[float]) -> Optional[float]:
-    """A number of seconds above 0, or None."""
+    """Returns a timeout. Raises ValueError unless it is above 0 or None."""
     if seconds is not None and not seconds > 0:
         raise ValueError(f"a timeout must be above 0 seconds, or None, not {seconds}")
     return seconds
 
 
 class Lines:
-    """What has arrived and wasn't taken yet. `feeds` is how many line feeds it has."""
+    """The bytes that have arrived and weren't taken yet. `feeds` is the number of line feeds in them."""
 
     def __init__(self) -> None:
-        # (what was taken of the first part is still there)
+        # the first part still has the bytes that were taken from it, up to `_begin`
         self._parts: list[bytes] = []
         self._begin = self.feeds = 0
 
@@ -36,7 +36,7 @@ class Lines:
         self.feeds += given.count(b"\n")
 
     def taken(self, lines: int) -> bytes:
-        """Takes this many lines, which must be there, each with its line feed."""
+        """Takes this many lines, each with its line feed. They must have arrived."""
         if len(self._parts) > 1:
             self._parts = [b"".join([self._parts[0][self._begin :], *self._parts[1:]])]
             self._begin = 0
@@ -47,7 +47,7 @@ class Lines:
         return given[begin:end]
 
     def _end_of(self, given: bytes, lines: int) -> int:
-        """The place after this many lines from the first one that wasn't taken."""
+        """The place in `given` after the first `lines` lines that weren't taken."""
         if lines == self.feeds:
             return max(self._begin, given.rfind(b"\n") + 1)
         if lines > FEW_LINES:
@@ -59,8 +59,11 @@ class Lines:
 
 
 class Channel:
-    """A connection with a server. It receives while it sends, so that neither side waits forever. `on_wait` is called
-    when nothing came for a moment. `timeout` is how many seconds the server may be silent while it is waited for."""
+    """A connection with a server. It receives while it sends, so that the two sides can't block each other.
+
+    `on_wait` is called whenever nothing has arrived for a moment. `timeout` is how many seconds the server may be
+    silent while a call waits for it, or None.
+    """
 
     def __init__(
         self, host: str, port: int, on_wait: Callable[[], None] = lambda: None, timeout: Optional[float] = None
@@ -72,11 +75,11 @@ class Channel:
         self.socket.setblocking(False)
         self._given = Lines()
         self.unsent, self._poll = memoryview(b""), select.poll()
-        # (since when the server is silent)
+        # when something was last sent or received
         self._since = time.monotonic()
 
     def send(self, text: bytes) -> None:
-        """Sends lines, now or while answers are waited for."""
+        """Sends lines: what the socket takes now, and the rest while replies are awaited."""
         self.unsent = memoryview(bytes(self.unsent) + text) if self.unsent else memoryview(text)
         self._push()
 
@@ -91,7 +94,7 @@ class Channel:
             raise Disconnected(LEFT) from error
 
     def step(self) -> None:
-        """Waits a moment for the server, keeps what came, and sends what can be sent."""
+        """Waits a moment for the server, keeps what arrives, and sends what can be sent."""
         self._poll.register(self.socket, select.POLLIN | (select.POLLOUT if self.unsent else 0))
         if not self._poll.poll(self._moment() * 1000):
             self.on_wait()
@@ -118,25 +121,25 @@ class Channel:
         return min(left, SECONDS_OF_A_STEP)
 
     def block(self, lines: int) -> bytes:
-        """The next `lines` lines of the server, each with its line feed. If it raises an error, none is taken."""
+        """Waits for the next `lines` lines, each with its line feed. If this raises an error, no line is taken."""
         while self._given.feeds < lines:
             self.step()
         return self._given.taken(lines)
 
     def block_given(self) -> bytes:
-        """The lines that have arrived but weren't returned yet, each with its line feed."""
+        """Takes the lines that have arrived, each with its line feed."""
         return self._given.taken(self._given.feeds)
 
     def line(self) -> str:
-        """The next line of the server, without its line feed."""
+        """Waits for the next line, without its line feed."""
         return self.block(1)[:-1].decode("ascii", "backslashreplace")
 
     def lines(self, count: int) -> list[str]:
-        """The next `count` lines of the server, without their line feeds."""
+        """Waits for the next `count` lines, without their line feeds."""
         return self.block(count).decode("ascii", "backslashreplace").split("\n")[:-1]
 
     def lines_given(self) -> list[str]:
-        """The lines that have arrived but weren't returned yet, without their line feeds."""
+        """Takes the lines that have arrived, without their line feeds."""
         return self.lines(self._given.feeds)
 
     def close(self) -> None:

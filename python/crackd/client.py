@@ -1,4 +1,4 @@
-"""A table on a server, over TCP. A call for many items sends them all before it waits for replies."""
+"""A table on a server, over TCP. A call for many items sends up to 100,000 statements before it waits for replies."""
 
 from __future__ import annotations
 
@@ -15,10 +15,7 @@ from .remote import RemoteTable
 
 
 class Client(RemoteTable):
-    """A table on a server: see `connect`.
-
-    `timeout` is how many seconds a call waits for a server that is silent, or None for ever; it may be changed.
-    """
+    """A table on a server: see `connect`."""
 
     def __init__(self, channel: Channel, keys: Keys, policy: str):
         self._channel: Optional[Channel] = channel
@@ -28,7 +25,7 @@ class Client(RemoteTable):
 
     @property
     def timeout(self) -> Optional[float]:
-        """How many seconds a call waits for a server that is silent, or None for ever; it may be changed."""
+        """How many seconds a call waits for a silent server; None waits for ever. It may be changed."""
         return self._timeout
 
     @timeout.setter
@@ -36,15 +33,24 @@ class Client(RemoteTable):
         self._timeout = checked_timeout(seconds)
 
     def ping(self) -> None:
-        """Asks the server for a sign of life. Raises `Disconnected` if there is none."""
+        """Checks that the server answers. Raises `Disconnected` if it doesn't."""
         super().ping()
+
+    def stats(self, part: Optional[int] = None) -> dict[str, int]:
+        """Returns numbers of the table and its server by name, such as rows, pieces and cells.
+
+        With `part` these are the numbers of that partition. docs/SPECIFICATION.md lists them. The time that this takes
+        doesn't depend on the number of rows.
+        """
+        numbers: dict[str, int] = super().stats(part)
+        return numbers
 
     def _check_open(self) -> None:
         with self._lock:
             self._opened()
 
     def _opened(self) -> Channel:
-        """The channel, if the connection is open."""
+        """The channel. Raises `Closed` if the connection is closed."""
         if self._channel is None:
             raise Closed("the connection is closed; connect again")
         return self._channel
@@ -53,11 +59,14 @@ class Client(RemoteTable):
         super()._leave()
         channel = getattr(self, "_channel", None)
         if channel is not None:
-            # (this closes the child's descriptor alone, so the parent's connection stays)
+            # this closes only the child's descriptor; the parent's connection stays open
             channel.close()
 
     def _alone(self, call: Callable[..., Any], *words: Any) -> Any:
-        """What a function returns that exchanges statements and replies, while no other call does."""
+        """Calls a function that exchanges statements and replies, while no other call uses the connection.
+
+        Raises `Busy` if a signal handler has interrupted such a call of this thread.
+        """
         with self._lock:
             if self._is_asking:
                 raise Busy("a call of this thread is under way, and a handler of a signal can't make another one")
@@ -73,7 +82,7 @@ class Client(RemoteTable):
             channel.close()
 
     def _say(self, steps: wire.Exchanges) -> Any:
-        """Drives a conversation with the server. Other calls may come between two exchanges."""
+        """Runs a conversation with the server. Other calls may come between two exchanges."""
         try:
             request = next(steps)
             while True:
@@ -87,8 +96,11 @@ class Client(RemoteTable):
             return done.value
 
     def _exchange(self, text: bytes, lines: int) -> bytes:
-        """Sends statements, and returns that many lines of replies, and those that the last one announces. An error in
-        between ends the connection, since later replies would no longer match; it has as `given` what came before."""
+        """Sends statements. Returns `lines` lines of replies, and the further lines that the last one announces.
+
+        An error closes the connection, since later replies would no longer match their statements. Its `given` has the
+        whole lines that had come.
+        """
         channel = self._opened()
         try:
             channel.timeout = self._timeout
@@ -103,7 +115,7 @@ class Client(RemoteTable):
 
     @property
     def partitions(self) -> int:
-        """How many partitions the server's table has."""
+        """The number of partitions of the server's table."""
         return len(self.layout().parts)
 
     def close(self) -> None:
@@ -131,20 +143,20 @@ def connect(
     policy: str = POLICY,
     timeout: Optional[float] = None,
 ) -> Client:
-    """Connects to the table of a `crackd serve`.
+    """Connects to the table of a server that `crackd serve` runs.
 
     Parameters
     ----------
     host, port : str, int
         Where the server listens.
     key_type : str or type, optional
-        "uint64", which the server itself has, or "int64", "float64", "datetime64[s]" ..; all clients of a table must
-        give the same.
+        The type of the keys: "uint64", which is the server's own, "int64", "float64", "datetime64[s]" .. All clients of
+        a table must use the same type.
     policy : str, optional
-        How rows are merged.
+        How queries merge pending rows: "auto", "complete", "gradual" or "ripple".
     timeout : float, optional
-        How many seconds to wait for a server that is silent, now and in each call; by default for ever. Then `TimedOut`
-        is raised, and the connection is closed. The attribute `timeout` of the table changes it.
+        How many seconds to wait for a silent server, now and in each call. After that `TimedOut` is raised and the
+        connection is closed. The default waits for ever. The attribute `timeout` of the table changes it.
 
     Returns
     -------

@@ -1,7 +1,8 @@
 """A table whose rows are spread over the workers of a Dask cluster, for more rows than one process can hold.
 
-Each shard is an actor on a worker: a `crackd.Table` for a range of keys. A call costs a round trip of Dask, some
-milliseconds, so this is for bulk loads and for queries over many rows. It needs numpy and dask.distributed.
+Each shard is an actor on a worker, and holds the rows of a range of keys. A call costs a round trip of some
+milliseconds through Dask, so this table suits bulk loads and queries over many rows. It needs numpy and
+dask.distributed.
 """
 
 from __future__ import annotations
@@ -42,18 +43,26 @@ from distributed import Actor, Client, Future, wait
 __all__ = ["BadSave", "ShardFailed", "ShardLost", "Table"]
 
 MANIFEST = "manifest.json"
-# what a manifest says of the files' format
+# the number of the file format, which is written into each manifest
 FORM = 2
-# how many rows of a file are loaded by a task
+# the greatest number of rows that one task loads from a file
 ROWS_A_TASK = 1_000_000
 
 
 class Table(Sharded):
     """A table over the workers of a cluster.
 
-    Methods, arguments, answers and errors are those of `crackd.Table`. Calls over several shards don't see one moment,
-    and only `save` keeps rows. When a worker is lost, each call that meets its keys raises `ShardLost` from then on,
-    and never returns a partial answer; the other shards go on. `shards` is how many there are.
+    Methods, arguments, results and errors are those of `crackd.Table`. A call over several shards doesn't read them at
+    the same moment, so it may see some of another client's changes and not others. Rows are in memory only; `save`
+    writes them to files.
+
+    If a worker is lost, its shards are lost with their rows. From then on each call that meets their keys raises
+    `ShardLost` and never returns a partial answer. The other shards keep working.
+
+    Attributes
+    ----------
+    shards : int
+        The number of shards.
     """
 
     def __init__(
@@ -67,11 +76,22 @@ class Table(Sharded):
         key_type: Any = None,
         **options: Any,
     ):
-        """An empty table for about `rows` rows, by default the length of `sample`, whose keys look like those of it.
+        """Creates an empty table.
 
-        It has a shard for each worker of `client`, or `shards` of them; quantiles of the sample divide the keys, so if
-        the sample has few different keys there are fewer, and without a sample there is one. `splits` divides the keys
-        instead of a sample. `key_type` and the options policy, history and cells are those of a `crackd.Table`.
+        Parameters
+        ----------
+        client : distributed.Client
+        sample : array_like, optional
+            Keys distributed like those that the table will hold. Its quantiles divide the keys into shards. If it has
+            few different keys there are fewer shards; without a sample or splits there is one.
+        rows : int, optional
+            About how many rows the table will hold. The default is the length of `sample`.
+        shards : int, optional
+            The number of shards. The default is one per worker of `client`.
+        splits : array_like, optional
+            The keys at which new shards begin, in ascending order. Replaces the quantiles of `sample`.
+        key_type, **options
+            `key_type`, `policy`, `history` and `cells` of `crackd.Table`.
         """
         kind = kind_of(sample) if key_type is None else Keys.named(key_type)
         numbers = np.sort(kind.many(sample)) if len(sample) else np.empty(0, np.uint64)
@@ -95,7 +115,7 @@ class Table(Sharded):
         history: int = HISTORY,
         cells: int = MOST_CELLS,
     ) -> None:
-        """Starts the shards, on the workers in turn. If `cuts` isn't given, quantiles of these numbers are used."""
+        """Starts the shards on the workers in turn. Splits are `cuts`, or else quantiles of the sorted `numbers`."""
         if policy not in POLICIES:
             raise ValueError(f"policy must be one of {', '.join(POLICIES)}, not {policy}")
         self._client, self._keys, self._lock, self._policy = client, kind, threading.Lock(), policy
@@ -115,12 +135,12 @@ class Table(Sharded):
         try:
             self._actors = [self._actor(at, workers[at % len(workers)]) for at in range(self.shards)]
             begun = [actor.ask("begin", ()) for actor in self._actors]
-            answers = [self._result(shard, it) for shard, it in enumerate(begun)]
+            answers = [self._result(shard, *it) for shard, it in enumerate(zip(self._actors, begun))]
         except BaseException:
             self._futures = []
             raise
         self._tokens = [token for token, _ in answers]
-        # (a shard that doesn't exist has no partition)
+        # the 0 at the end stands for shards that don't exist
         self._parts = np.array([*(parts for _, parts in answers), 0], np.uint64)
 
     def _begun(self, worker: str, cuts: list[int], options: dict[str, Any]) -> Future:
@@ -129,7 +149,7 @@ class Table(Sharded):
         return self._client.submit(Shard, self._keys, cuts, options, actor=True, pure=False, **where)
 
     def _inner_cuts(self, numbers: Any, shard: int, parts: int) -> list[int]:
-        """Where a shard's own partitions are cut."""
+        """The splits between a shard's own partitions."""
         low, high = self._ends_of(shard)
         first = np.searchsorted(numbers, np.uint64(low))
         end = len(numbers) if high == TOP else np.searchsorted(numbers, np.uint64(high))
@@ -138,7 +158,7 @@ class Table(Sharded):
 
     @property
     def policy(self) -> str:
-        """How rows are merged."""
+        """How queries merge pending rows."""
         return self._policy
 
     def _facts(self) -> Iterator[tuple[str, str]]:
@@ -157,21 +177,24 @@ class Table(Sharded):
                 raise Closed("the table is closed")
 
     def _lose(self, shard: int, why: str) -> ShardLost:
-        """Treats a shard as lost from now on."""
+        """Notes that a shard is lost, for the reason `why`. Returns the error."""
         low, high = self._ends_of(shard)
         first, end = (None if it in (0, TOP) else self._keys.back_one(it) for it in (low, high))
         self._lost.setdefault(shard, ShardLost(shard, first, end, ends_text(self._keys, low, high), why))
         return self._lost[shard]
 
     def _gather(self, cuts: dict[int, Cut], name: str, answers: dict[int, Any], errors: dict[int, Error]) -> None:
+        # another thread may close the table and replace this list
+        actors = self._actors
         self._check_open()
         errors.update((it, self._lost[it]) for it in cuts if it in self._lost)
-        waiting = {it: self._start(it, name, cut.words(), errors) for it, cut in cuts.items() if it not in errors}
+        left = {it: cut for it, cut in cuts.items() if it not in errors}
+        waiting = {it: self._start(it, actors[it], name, cut.words(), errors) for it, cut in left.items()}
         for shard, future in waiting.items():
             if future is None:
                 continue
             try:
-                token, answer = self._result(shard, future)
+                token, answer = self._result(shard, actors[shard], future)
                 if token == self._tokens[shard]:
                     answers[shard] = answer
                 else:
@@ -179,18 +202,26 @@ class Table(Sharded):
             except Error as error:
                 errors[shard] = error
 
-    def _start(self, shard: int, name: str, words: tuple[Any, ...], errors: dict[int, Error]) -> Any:
+    def _start(self, shard: int, actor: Actor, name: str, words: tuple[Any, ...], errors: dict[int, Error]) -> Any:
         try:
-            return self._actors[shard].ask(name, words)
+            return actor.ask(name, words)
         except Exception as error:
-            errors[shard] = self._lose(shard, str(error) or type(error).__name__)
+            errors[shard] = self._closed_or_lost(shard, error)
             return None
 
+    def _closed_or_lost(self, shard: int, error: Exception) -> Error:
+        """Why a shard doesn't answer: `Closed` if the table was closed meanwhile, else `ShardLost`."""
+        try:
+            self._check_open()
+        except Error as closed:
+            return closed
+        return self._lose(shard, str(error) or type(error).__name__)
+
     def _actor(self, shard: int, worker: str) -> Actor:
-        """The actor of a shard that was started on a worker. A refused opening raises its error."""
+        """The actor of a shard, once it has started on its worker. Raises the error if the shard couldn't be opened."""
         future = self._futures[shard]
         while not future.done():
-            # (a timeout of `result` would cancel what other results wait for)
+            # `result` with a timeout would cancel futures that other results depend on
             try:
                 wait(future, timeout=SECONDS_OF_A_LOOK)
             except TIMEOUTS:
@@ -200,27 +231,26 @@ class Table(Sharded):
             future.result()
         return Actor(Shard, worker, future.key)
 
-    def _result(self, shard: int, future: Any) -> tuple[str, Any]:
-        """Waits for a shard's answer. An error that isn't this package's means that the shard is lost."""
-        actor = self._actors[shard]
+    def _result(self, shard: int, actor: Actor, future: Any) -> tuple[str, Any]:
+        """Waits for a shard's token and answer. An error other than this package's means that the shard is lost."""
         try:
             token, answer = waited(future, lambda: has_actor(self._client, actor._address, actor.key))
             return token, answer
         except Error:
             raise
         except Exception as error:
-            raise self._lose(shard, str(error) or type(error).__name__) from error
+            raise self._closed_or_lost(shard, error) from error
 
     @property
     def partitions(self) -> int:
-        """How many partitions all shards have."""
+        """The number of partitions of all shards."""
         return int(self._parts.sum())
 
     def _insert(self, key: int, payload: int) -> int:
         return int(self._insert_many(np.array([key], np.uint64), np.array([payload], np.int64))[0])
 
     def close(self) -> None:
-        """Frees all that the shards took. A second call does nothing."""
+        """Frees all memory of the shards. A second call does nothing."""
         if self._futures:
             self._ask(self._every(), "close")
             self._futures, self._actors = [], []
@@ -228,10 +258,10 @@ class Table(Sharded):
     # Files
 
     def save(self, folder: Any) -> dict[str, Any]:  # type: ignore[override]
-        """Writes the rows of each shard where it is, to a folder that the client and all workers share.
+        """Has each shard's worker write its rows to a folder that the client and all workers share.
 
-        What was saved there before stays until everything is written. Each file is an array of numpy with the fields
-        `key` and `payload`. Returns the manifest.
+        Each file is a numpy array with the fields `key` and `payload`. An earlier save in the folder is removed only
+        after everything is written. Returns the manifest.
         """
         folder = pathlib.Path(folder).resolve()
         folder.mkdir(parents=True, exist_ok=True)
@@ -259,14 +289,14 @@ class Table(Sharded):
 
     @classmethod
     def load(cls, client: Client, folder: Any, **options: Any) -> "Table":
-        """`restore`, by the name that a table in the process has for it."""
+        """The same as `restore`, under the name that `crackd.Table` uses."""
         return cls.restore(client, folder, **options)
 
     @classmethod
     def restore(cls, client: Client, folder: Any, *, shards: Optional[int] = None, **options: Any) -> "Table":
-        """Reads a table that was saved, on the present workers, or in as many shards as `shards` says.
+        """Loads a table that `save` wrote onto the present workers: a shard per worker, or `shards` of them.
 
-        Rows get new numbers. Counts and sums are compared with the manifest: what doesn't agree raises `BadSave`.
+        Rows get new numbers. Raises `BadSave` if counts or sums differ from those in the manifest.
         """
         folder = pathlib.Path(folder).resolve()
         manifest = read_manifest(folder / MANIFEST)
@@ -287,7 +317,7 @@ class Table(Sharded):
         return table._loaded(loads, lambda: table._check_restored(manifest))
 
     def _check_restored(self, manifest: dict[str, Any]) -> None:
-        """Compares the counts and sums of each saved shard's keys with the manifest."""
+        """Compares the count and sum over each saved shard's keys with those in the manifest."""
         firsts = np.array([0, *manifest["splits"]], np.uint64)
         lasts = np.array([*(it - 1 for it in manifest["splits"]), TOP - 1], np.uint64)
         found_of = {"counts": self._count_many(firsts, lasts).tolist(), "sums": self._sum_many(firsts, lasts)}
@@ -304,7 +334,7 @@ class Table(Sharded):
         shards: Optional[int],
         options: dict[str, Any],
     ) -> "Table":
-        """A table for rows of which some were drawn, block by block: how many rows each has, and some of its keys."""
+        """An empty table for rows in blocks. `samples` has for each block its number of rows and some of its keys."""
         rows = sum(it[0] for it in samples)
         numbers = np.sort(np.concatenate([np.empty(0, np.uint64), *evened(samples)]))
         table: Table = cls.__new__(cls)
@@ -312,7 +342,10 @@ class Table(Sharded):
         return table
 
     def _loaded(self, loads: Callable[[list[Place]], list[Future]], check: Callable[[], None]) -> "Table":
-        """This table, once the tasks that `loads` starts have placed all rows, all is merged, and the check passes."""
+        """Waits until the tasks that `loads` starts have inserted all rows, merges the rows, and calls `check`.
+
+        Returns this table. Closes it if anything fails.
+        """
         places = [Place(it._address, it.key, token) for it, token in zip(self._actors, self._tokens)]
         try:
             try:
@@ -322,7 +355,7 @@ class Table(Sharded):
             except Error:
                 raise
             except Exception:
-                # (if a lost worker had a shard, that is the error)
+                # if the cause is a lost shard, this raises `ShardLost` instead
                 self._all(self._every(), "begin")
                 raise
             self.settle()
@@ -332,7 +365,7 @@ class Table(Sharded):
             raise
         return self
 
-    # What a cluster has already
+    # Rows that the cluster already has
 
     @classmethod
     def from_dask(
@@ -345,9 +378,9 @@ class Table(Sharded):
         shards: Optional[int] = None,
         **options: Any,
     ) -> "Table":
-        """A table of the rows of a Dask dataframe or array. Each block goes from its worker to the shards.
+        """Creates a table of the rows of a Dask dataframe or array. Each block goes from its worker to the shards.
 
-        `key` and `payload` are columns, by name or number. Without a column of payloads these are 0, 1, 2 ..
+        `key` and `payload` are columns, by name or number. Without `payload` the payloads are 0, 1, 2 ..
         """
         is_frame = hasattr(type(frame), "columns")
         if not (hasattr(type(frame), "to_delayed") and (is_frame or hasattr(type(frame), "dtype"))):
@@ -379,8 +412,7 @@ class Table(Sharded):
 
 
 def evened(samples: Sequence[tuple[int, Any]]) -> Iterator[Any]:
-    """Some of the keys that were drawn from each block, so that each stands for about the same number of rows in all
-    blocks."""
+    """Thins the samples of the blocks, so that each remaining key stands for about the same number of rows."""
     drawn = [(rows / len(keys), keys) for rows, keys in samples if len(keys)]
     most = max((each for each, _ in drawn), default=1)
     for each, keys in drawn:
@@ -388,7 +420,7 @@ def evened(samples: Sequence[tuple[int, Any]]) -> Iterator[Any]:
 
 
 def ends_text(keys: Keys, low: int, high: int) -> str:
-    """The keys from one number up to but not including another, in words."""
+    """The keys from the number `low` up to but not including `high`, in words."""
     if low == 0:
         return f"keys below {keys.back_one(high)}" if high < TOP else "all keys"
     if high == TOP:
@@ -404,7 +436,7 @@ def write_synced(path: pathlib.Path, text: str) -> None:
 
 
 def sync_folder(folder: pathlib.Path) -> None:
-    """Makes the names in a folder last."""
+    """Flushes the folder's entries to disk."""
     at = os.open(folder, os.O_RDONLY)
     try:
         os.fsync(at)
@@ -413,7 +445,7 @@ def sync_folder(folder: pathlib.Path) -> None:
 
 
 def read_manifest(path: pathlib.Path) -> dict[str, Any]:
-    """The manifest of a save. Anything else raises `BadSave`."""
+    """Reads the manifest of a save. Raises `BadSave` if the file is anything else."""
     try:
         manifest: dict[str, Any] = json.loads(path.read_text(encoding="ascii"))
         lists = [manifest[it] for it in ("files", "counts", "sums")]

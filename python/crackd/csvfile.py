@@ -1,4 +1,4 @@
-"""Rows from CSV files."""
+"""Reads rows from CSV files."""
 
 from __future__ import annotations
 
@@ -24,13 +24,13 @@ HEADER = ["key", "payload"]
 WHOLE = re.compile(r"[+-]?[0-9]+")
 DECIMAL = re.compile(r"[+-]?(?:[0-9]+\.?[0-9]*|\.[0-9]+)")
 FLOAT = re.compile(rf"{DECIMAL.pattern}(?:e[+-]?[0-9]+)?|[+-]?inf(?:inity)?|[+-]?nan", re.ASCII | re.IGNORECASE)
-# the formats of dates that numpy reads as `strptime` does, if each field has all of its digits
+# the date formats that numpy reads as `strptime` does, provided that each field has all of its digits
 ISO = re.compile(r"%Y-%m-%d(?:[T ]%H(?::%M(?::%S(?:\.%f)?)?)?)?Z?")
 DIGITS = {"%Y": "0000", "%m": "00", "%d": "00", "%H": "00", "%M": "00", "%S": "00"}
 MOST_DECIMALS = 40
-# so many digits fit into 64 bits
+# integers of this many digits surely fit into 64 bits
 MOST_DIGITS = 18
-# (few, so that they stay in the processor's caches)
+# few, so that they stay in the processor's cache
 RECORDS_AT_ONCE = 1000
 EPOCH = datetime.datetime(1970, 1, 1)
 MICROSECOND = datetime.timedelta(microseconds=1)
@@ -40,7 +40,7 @@ Place = Union[str, int]
 
 
 class CsvError(Error, ValueError):
-    """A field can't be read. `line` and `column` say where, both from 1."""
+    """A field of a CSV file can't be read. `line` and `column`, both from 1, say where it is."""
 
     def __init__(self, path: str, line: int, column: int, name: str, what: str):
         super().__init__(f"{path}, line {line}, column {column}{f' ({name})' if name else ''}: {what}")
@@ -49,7 +49,7 @@ class CsvError(Error, ValueError):
 
 @dataclass(frozen=True)
 class Column:
-    """How the fields of a column are read. `least` and `most` bound integers."""
+    """How the fields of a column are read. `least` and `most` are the least and greatest integers accepted."""
 
     decimals: int = 0
     format: Optional[str] = None
@@ -58,7 +58,7 @@ class Column:
     most: int = SIGN - 1
 
     def reader(self) -> Callable[[str], Any]:
-        """The function that reads a field as a number. It raises ValueError with the reason if it can't."""
+        """The function that reads a field as a number, or raises ValueError with the reason."""
         if self.format is not None:
             return self._date
         if self.is_float:
@@ -66,8 +66,7 @@ class Column:
         return self._decimal if self.decimals else self._whole
 
     def read_all(self, fields: list[str]) -> Sequence[Any]:
-        """The numbers of many fields. If this can't read them all it raises ValueError, and `reader` may still be able
-        to."""
+        """Reads many fields at once. Raises ValueError if it can't; `reader` may still be able to read each field."""
         if self.format is not None:
             return dates_of_numpy(fields, self.format)
         if self.is_float or self.decimals:
@@ -81,7 +80,7 @@ class Column:
         return found
 
     def _plain_decimals(self, fields: list[str]) -> Optional[list[int]]:
-        """The numbers of decimals, if all are written with as many decimal places as they may have, and are small."""
+        """Reads decimals that all have exactly `decimals` decimal places and fit into 64 bits. None if others occur."""
         if not 0 < self.decimals < MOST_DIGITS:
             return None
         text = "\n".join(fields)
@@ -93,7 +92,7 @@ class Column:
 
     @property
     def code(self) -> str:
-        """The type of the numbers, as the module `array` names it."""
+        """The type code of the numbers in the module `array`."""
         return "d" if self.is_float else "q" if self.format is not None or self.least < 0 else "Q"
 
     def _date(self, field: str) -> int:
@@ -141,7 +140,10 @@ class Column:
 
 
 def dates_of_numpy(fields: list[str], form: str) -> Sequence[Any]:
-    """The microseconds since 1970 of dates of an ISO format, whose fields all have their digits; else ValueError."""
+    """Reads dates of an ISO format as microseconds since 1970, by numpy.
+
+    Raises ValueError for another format, or if a field lacks digits.
+    """
     if np is None or ISO.fullmatch(form) is None:
         raise ValueError("numpy doesn't read this format")
     texts = np.array(fields)
@@ -155,7 +157,7 @@ def dates_of_numpy(fields: list[str], form: str) -> Sequence[Any]:
     letters = texts.view(np.uint32).reshape(len(fields), width)
     if not np.where(wanted == ord("0"), letters - ord("0") < 10, letters == wanted).all():
         raise ValueError("a field of another form")
-    # (numpy has no time zones)
+    # numpy has no time zones
     dates = np.array([it[:-1] for it in fields] if form.endswith("Z") else fields, "datetime64[us]")
     if dates.min() < LEAST_DATE:
         raise ValueError("numpy reads the year 0")
@@ -167,7 +169,7 @@ def quoted(field: str) -> str:
 
 
 class CsvFile:
-    """A file of records with columns."""
+    """A CSV file."""
 
     def __init__(self, path: Any, delimiter: str, header: Optional[bool], encoding: str):
         if not isinstance(delimiter, str) or len(delimiter) != 1 or delimiter in '"\r\n':
@@ -175,12 +177,12 @@ class CsvFile:
         self.path, self.delimiter, self.header, self.encoding = os.fspath(path), delimiter, header, encoding
 
     def rows(self, columns: list[tuple[Place, Column]]) -> Iterator[tuple[Any, ...]]:
-        """The numbers of these columns, record by record."""
+        """Yields the numbers in these columns, record by record."""
         for block in self.blocks(columns):
             yield from zip(*block)
 
     def blocks(self, columns: list[tuple[Place, Column]]) -> Iterator[list[Sequence[Any]]]:
-        """The numbers of these columns, column by column for some records at a time."""
+        """Yields the numbers in these columns for some records at a time, as a list for each column."""
         with open(self.path, encoding=self.encoding, newline="") as file:
             records = csv.reader(file, delimiter=self.delimiter)
             lines: list[int] = []
@@ -206,7 +208,7 @@ class CsvFile:
             raise CsvError(self.path, records.line_num, 1, "", str(error)) from error
 
     def _block(self, block: list[list[str]], lines: list[int], fields: list[Any]) -> list[Sequence[Any]]:
-        """The numbers of some records, which end at these lines, column by column."""
+        """The numbers of some records, as a list for each column. `lines` has the last line of each record."""
         try:
             return [column.read_all([record[at] for record in block]) for at, column, _ in fields]
         except (IndexError, ValueError):
@@ -247,8 +249,10 @@ class CsvFile:
 
 
 def not_blank(records: Any, lines: list[int], errors: list[csv.Error]) -> Iterator[list[str]]:
-    """The records that aren't blank. Their last lines are added to one list. An error of the format ends them and is
-    added to the other, since a field before it may be wrong too."""
+    """Yields the records that aren't blank, and adds the last line of each to `lines`.
+
+    A format error ends the records. It is added to `errors`, not raised, since an earlier field may be wrong too.
+    """
     try:
         for record in records:
             if record:
@@ -261,7 +265,7 @@ def not_blank(records: Any, lines: list[int], errors: list[csv.Error]) -> Iterat
 def read_columns(
     file: CsvFile, key: Place, key_column: Column, payload: Optional[Place], payload_column: Column
 ) -> tuple[Any, Any]:
-    """The keys and payloads of a file; without a column of payloads these are 0, 1, 2 .."""
+    """Reads the keys and payloads of a file. Without a payload column the payloads are 0, 1, 2 .."""
     columns = [(key, key_column)] + ([] if payload is None else [(payload, payload_column)])
     found = columns_of_pandas(file, columns)
     if found is None:
@@ -289,32 +293,33 @@ def load_csv(
     progress: Progress = None,
     **options: Any,
 ) -> AnyTable:
-    """Reads the rows of a CSV file into a new table of this process, or `into` another table, and merges them.
+    """Loads the rows of a CSV file into a new table in this process, or into the table `into`, and merges them.
 
     Parameters
     ----------
     path : path_like
     key, payload : str or int, optional
-        Columns: names of the header, or numbers from 0. With `payload=None` the payloads are 0, 1, 2 ..
+        The columns: names in the header, or numbers from 0. With `payload=None` the payloads are 0, 1, 2 ..
     delimiter : str, optional
     header : bool, optional
-        Whether the file has a header. By default it has one if a column is named, or if the first record is
+        Whether the file has a header. By default it has one if a column is given by name, or if the first record is
         `key,payload`.
     key_type : str, optional
         "int64", "uint64" or "float64".
     key_decimals, payload_decimals : int, optional
-        `key_decimals=2` reads 12.34 as the integer 1234, and refuses 12.345.
+        The number of decimal places. `key_decimals=2` reads 12.34 as the integer 1234, and refuses 12.345.
     key_format, payload_format : str, optional
-        Those of `datetime.strptime`. Such keys are microseconds since 1970, as datetime64[us] where numpy is installed;
-        such payloads are microseconds as integers. A time zone in the field (%z) is respected. ISO formats such as
-        "%Y-%m-%d %H:%M:%S" are read fastest, by numpy.
+        Formats of `datetime.strptime`, for columns of dates. Such keys are datetime64[us] if numpy is installed, else
+        microseconds since 1970 as integers; such payloads are always integers. A time zone in the field (%z) is
+        respected. ISO formats such as "%Y-%m-%d %H:%M:%S" are the fastest, since numpy reads them.
     encoding : str, optional
     into : table, optional
+        The table to insert the rows into.
     progress : bool or callable, optional
-        Whether to report how many rows are inserted: on standard error, or by calls with the numbers of rows done and
-        of all.
+        True reports progress on standard error. A function is called with the number of rows inserted so far and the
+        number of all rows.
     **options
-        Those of `Table`, for a new table.
+        Parameters of `Table`, for a new table only.
 
     Raises
     ------
@@ -323,7 +328,8 @@ def load_csv(
 
     Notes
     -----
-    pandas reads a large file, where it is installed and reads the same.
+    If pandas is installed it reads files from 8 MB on, and if it is imported already also smaller ones, provided that
+    it surely reads the same values.
     """
     if key_type not in ("int64", "uint64", "float64", int, float):
         raise ValueError(f"key_type must be int64, uint64 or float64, not {key_type}")

@@ -1,4 +1,4 @@
-"""Dates and times as integers, exactly: numpy's own arithmetic wraps where a date is far from 1970."""
+"""Converts dates and times to integers exactly. numpy's own conversions overflow for dates far from 1970."""
 
 from __future__ import annotations
 
@@ -9,7 +9,7 @@ from typing import Any, NamedTuple
 
 from .arrays import SIGN, np, shown
 
-# a moment is a number of attoseconds since 1970, an integer of any size
+# a moment is a number of attoseconds since 1970, as a Python int
 SECOND = 10**18
 DAY = 86_400 * SECOND
 SIZES = {
@@ -28,41 +28,41 @@ SIZES = {
 MONTHS = {"Y": 12, "M": 1}
 MICROSECOND = datetime.timedelta(microseconds=1)
 EPOCH = datetime.datetime(1970, 1, 1)
-# the calendar repeats after 400 years
+# the Gregorian calendar repeats every 400 years
 CYCLE, DAYS_OF_A_CYCLE = 400 * 12, 146_097
 FIRST_MONTH, FIRST_DAY = -1969 * 12, 1 - EPOCH.toordinal()
 
-# a date as text: up to its seconds, and their decimals
+# a date as text: one group up to the seconds, and one for their decimals
 TEXT = re.compile(
     r"([+-]?[0-9]{4,6}(?:-[0-9]{2}){0,2}(?:[T ][0-9]{2}(?::[0-9]{2}){0,2})?)(?:(?<=:[0-9]{2}:[0-9]{2})\.([0-9]{1,18}))?"
 )
 
 
 def day_of_month(month: int) -> int:
-    """The first day of a month; both are counted from January 1970."""
+    """The first day of a month. Days and months are counted from January 1970."""
     cycles, rest = divmod(month - FIRST_MONTH, CYCLE)
     return datetime.date(rest // 12 + 1, rest % 12 + 1, 1).toordinal() - 1 + FIRST_DAY + cycles * DAYS_OF_A_CYCLE
 
 
 def month_of_day(day: int) -> int:
-    """The month that a day is in."""
+    """The month that contains a day."""
     cycles, rest = divmod(day - FIRST_DAY, DAYS_OF_A_CYCLE)
     date = datetime.date.fromordinal(rest + 1)
     return (date.year - 1) * 12 + date.month - 1 + FIRST_MONTH + cycles * CYCLE
 
 
 class Unit(NamedTuple):
-    """The unit of dates of numpy: so many attoseconds, or so many months."""
+    """The unit of a numpy date type: `size` attoseconds, or `size` months."""
 
     size: int
     is_months: bool
 
     def moment(self, number: int) -> int:
-        """The moment of a date, which is a number of units since 1970."""
+        """The moment of a date, which is given as a number of units since 1970."""
         return day_of_month(number * self.size) * DAY if self.is_months else number * self.size
 
     def least_from(self, moment: int) -> int:
-        """The least date that isn't before a moment."""
+        """The earliest date that isn't before a moment, as a number of units."""
         if not self.is_months:
             return -(-moment // self.size)
         day = -(-moment // DAY)
@@ -72,7 +72,7 @@ class Unit(NamedTuple):
 
 @functools.lru_cache(maxsize=None)
 def unit_of(dtype: Any) -> Unit:
-    """The unit of a type of numpy's dates."""
+    """The unit of a numpy date type."""
     name, count = np.datetime_data(dtype)
     if name == "generic":
         raise TypeError("dates need a unit, as in datetime64[s]")
@@ -80,13 +80,15 @@ def unit_of(dtype: Any) -> Unit:
 
 
 def is_date(kind: type) -> bool:
-    """Whether this is a type of dates of Python, numpy or pandas."""
+    """Whether this is a date type of Python, numpy or pandas."""
     return issubclass(kind, (datetime.date, np.datetime64)) or hasattr(kind, "to_datetime64")
 
 
 def of_numpy(date: Any, what: str) -> Any:
-    """A date of Python or pandas, which `what` names in errors, as one of numpy with all of its digits; in UTC if it
-    has a time zone."""
+    """Converts a date of Python, numpy or pandas to a numpy date without rounding. A time zone becomes UTC.
+
+    `what` names the date in errors.
+    """
     if hasattr(date, "to_datetime64"):
         return date.to_datetime64()
     if isinstance(date, datetime.datetime):
@@ -100,7 +102,7 @@ def of_numpy(date: Any, what: str) -> Any:
 
 
 def moment_of(date: Any, what: str) -> int:
-    """The moment of a date."""
+    """The moment of a date. Raises ValueError for NaT."""
     found = of_numpy(date, what)
     number = int(found.astype(np.int64))
     if number == -SIGN:
@@ -109,23 +111,25 @@ def moment_of(date: Any, what: str) -> int:
 
 
 def moment_of_text(text: str) -> int:
-    """The moment of a date as text, such as 2020-01-31 or 2020-01-31T12:30:00.5."""
+    """The moment of a date in a text such as 2020-01-31 or 2020-01-31T12:30:00.5."""
     found = TEXT.fullmatch(text)
     if found is None:
         raise ValueError(f"{shown(text)!r} isn't a date such as 2020-01-31 or 2020-01-31T12:30:00.5")
-    # (numpy wraps where decimals don't fit)
+    # the decimals are added here, since numpy would overflow where they don't fit
     return moment_of(np.datetime64(found[1]), "a date") + int((found[2] or "").ljust(18, "0"))
 
 
 def array_of(dates: Any, what: str) -> Any:
-    """An array of these dates, or a list of dates of numpy if they have several units."""
+    """An array of these dates, or a list of numpy dates if they have several units."""
     found = [of_numpy(it, what) for it in dates]
     return np.array(found) if len({it.dtype for it in found}) == 1 else found
 
 
 def rescaled(dates: Any, unit: Unit) -> Any:
-    """An array of dates in another unit, as integers of 64 bits; None if this needs more than a multiplication or a
-    division of them all, or if one isn't exact or doesn't fit."""
+    """Converts an array of dates to another unit, as 64-bit integers, by one multiplication or division.
+
+    Returns None if the conversion needs more than that, or if a date isn't exact in the unit or doesn't fit.
+    """
     own = unit_of(dates.dtype)
     numbers = dates.astype(np.int64)
     if own.is_months != unit.is_months:

@@ -1,4 +1,4 @@
-"""Tables in words: what `repr` and a notebook show. Nothing is merged for it, and no server is asked by `repr`."""
+"""The text of tables that `repr` and notebooks show. Neither merges rows, and `repr` asks no server or cluster."""
 
 from __future__ import annotations
 
@@ -11,7 +11,7 @@ CELL = '<td style="text-align: left; padding: 0 1em 0 0">'
 
 
 def state_of(table: Any) -> str:
-    """Why a table can't be asked, or nothing if it can."""
+    """Why a table can't be used, or an empty text if it can."""
     try:
         table._check_open()
     except Closed:
@@ -22,7 +22,10 @@ def state_of(table: Any) -> str:
 
 
 def facts_of(table: Any, is_asking: bool) -> Iterator[tuple[str, str]]:
-    """What there is to say of a table, with its names. Rows are counted if they are here, or if it may be asked."""
+    """The facts about a table, as pairs of a name and a text.
+
+    Rows are counted if they are in this process, or if `is_asking` allows a call to another one.
+    """
     state = state_of(table)
     if not state and (is_asking or table._is_here):
         yield "rows", f"{table._rows():,}"
@@ -35,35 +38,35 @@ def facts_of(table: Any, is_asking: bool) -> Iterator[tuple[str, str]]:
 
 
 def name_of(table: Any) -> str:
-    """The name of a table's type, as users import it."""
+    """The name of a table's class as users write it, such as `crackd.Table`."""
     return f"{type(table).__module__.replace('crackd.cluster', 'cluster').partition('.')[0]}.{type(table).__name__}"
 
 
 def text_of(table: Any) -> str:
-    """A table in a line: <crackd.Table: 5 rows, int64 keys, 1 partition, policy auto, memory about 0.5 MB>."""
+    """A table in one line: <crackd.Table: 5 rows, int64 keys, 1 partition, policy auto, memory about 0.5 MB>."""
     forms = {"rows": "{} rows", "keys": "{} keys", "partitions": "{} partitions", "shards": "{} shards"}
     said = [(forms.get(name, "{}" if name == "state" else name + " {}"), it) for name, it in facts_of(table, False)]
     return f"<{name_of(table)}: {', '.join(plural(form.format(it), it) for form, it in said)}>"
 
 
 def size_text(count: int) -> str:
-    """About how many bytes these are."""
+    """A number of bytes as text, in MB."""
     return f"about {count / 1e6:,.{0 if count >= 10**7 else 1}f} MB"
 
 
 def plural(text: str, count: str) -> str:
-    """A text about one thing without the s of many."""
+    """A text without its final s if the count is 1."""
     return text[:-1] if count == "1" and text.endswith("s") else text
 
 
 def html_of(table: Any) -> str:
-    """A table as one of HTML, with a line for each fact."""
+    """A table as an HTML table with a row for each fact."""
     lines = [f"<tr>{CELL}{html.escape(name)}</td>{CELL}{html.escape(it)}</td></tr>" for name, it in asked(table)]
     return f"<table><caption>{html.escape(name_of(table))}</caption><tbody>{''.join(lines)}</tbody></table>"
 
 
 def asked(table: Any) -> list[tuple[str, str]]:
-    """The facts of a table with its rows, if it answers."""
+    """The facts about a table, with the number of rows, or with the error if the table doesn't answer."""
     try:
         return list(facts_of(table, True))
     except Error as error:

@@ -1,4 +1,4 @@
-"""What a table refuses, and why, in words."""
+"""The errors of tables, and the reasons of refusals in words."""
 
 from __future__ import annotations
 
@@ -27,7 +27,7 @@ REASONS = {
 
 
 class Error(Exception):
-    """The base of all errors of this package, except plain TypeError, ValueError and OverflowError."""
+    """The base class of this package's errors. Wrong arguments also raise TypeError, ValueError and OverflowError."""
 
     answers: Any = None
 
@@ -37,27 +37,35 @@ class Closed(Error, ValueError):
 
 
 class Disconnected(Error, ConnectionError):
-    """The connection with the server is closed, or there is none. `connect` makes a new one."""
+    """The server closed the connection, or there is no server. `connect` makes a new connection."""
 
 
 class TimedOut(Disconnected, TimeoutError):
-    """The server was silent for as long as `timeout` says, so the connection is closed."""
+    """The server was silent for `timeout` seconds, so the connection is closed."""
 
 
 class Busy(Error, RuntimeError):
-    """A handler of a signal asks the table of a connection whose call it interrupts."""
+    """A signal handler made a call over a connection while it interrupted another call over the same connection."""
 
 
 class Forked(Error, RuntimeError):
-    """A forked child asks a table of its parent."""
+    """A forked child process used a table of its parent, or tried to close its parent's server."""
 
 
 class Refused(Error):
     """A call was refused.
 
-    `code` is the number of the refusal. `done` is how many items of the call were done before the first that was
-    refused. Over TCP and in other shards items after it may also be done: `later` is how many, and 0 in a table of one
-    shard. After an `insert_many`, `answers` has the numbers of the rows that were placed, in the order of the items.
+    Attributes
+    ----------
+    code : int
+        The number of the refusal.
+    done : int
+        How many items of the call were done before the first refused one.
+    later : int
+        How many items after the refused one were done nevertheless, over TCP and in other shards. It is 0 for a table
+        in this process with one shard.
+    answers : array of uint64, or None
+        After an `insert_many`, the numbers of the inserted rows, in the order of the items.
     """
 
     answers: Any = None
@@ -72,10 +80,18 @@ class Refused(Error):
 
 
 class ShardLost(Error):
-    """A shard's worker is gone, and its rows with it.
+    """A shard of a cluster's table is lost with its rows, because its worker is gone.
 
-    `shard` is its number, and `low` and `high` are the ends of its keys, half open; None means no end. After an
-    `insert_many`, `answers` has the numbers of the rows that were placed in other shards.
+    Attributes
+    ----------
+    shard : int
+        The number of the shard.
+    low, high : key or None
+        The ends of its keys: `low` is inside, `high` isn't, and None means no end.
+    keys, why : str
+        Its keys, and the cause, in words.
+    answers : array of uint64, or None
+        After an `insert_many`, the numbers of the rows that were inserted into other shards.
     """
 
     answers: Any = None
@@ -88,18 +104,18 @@ class ShardLost(Error):
         return type(self), (self.shard, self.low, self.high, self.keys, self.why), {"answers": self.answers}
 
     def copied(self, answers: Any = None) -> "ShardLost":
-        """A new error with these answers, since each call raises its own."""
+        """Returns a copy with these answers: each call raises an error of its own."""
         found = ShardLost(self.shard, self.low, self.high, self.keys, self.why)
         found.answers = answers
         return found
 
 
 class WrongPartition(Refused, ValueError):
-    """The new key of a row belongs to another partition. Delete the row and insert it again."""
+    """An update's new key belongs to another partition than the row. `move` takes the row there."""
 
 
 class NoSuchPartition(Refused, LookupError):
-    """A row number of a partition that doesn't exist."""
+    """A row number names a partition that doesn't exist."""
 
 
 class HistoryFull(Refused):
@@ -107,19 +123,19 @@ class HistoryFull(Refused):
 
 
 class OutOfMemory(Refused, MemoryError):
-    """Memory was refused. The rows are as before the refused item."""
+    """Memory ran out. The rows are as before the refused item."""
 
 
 class Full(Refused):
-    """All cells of a partition are taken. More partitions hold more rows."""
+    """All cells of a partition are taken. A table with more partitions holds more rows."""
 
 
 class LifeOver(Refused):
-    """A partition has answered all the commands that it ever may."""
+    """A partition has answered as many commands as it ever may, 2**40 by default."""
 
 
 class BadSplits(Refused, ValueError):
-    """Splits that don't rise, or too many splits."""
+    """Splits aren't in ascending order, one is the least key, or there are too many."""
 
 
 class BadLimit(Refused, ValueError):
@@ -140,5 +156,5 @@ KINDS = {
 
 
 def refused(code: int, done: int = 0, later: int = 0) -> Refused:
-    """The error for a refusal."""
+    """The error for the refusal with this number."""
     return KINDS.get(code, Refused)(code, done, later)

@@ -1,4 +1,4 @@
-"""What a process that was forked may do with its parent's tables: nothing. There each call raises `Forked` at once."""
+"""Forked child processes can't use their parent's tables: each call raises `Forked` at once."""
 
 from __future__ import annotations
 
@@ -14,7 +14,7 @@ _TABLES: weakref.WeakSet[Any] = weakref.WeakSet()
 
 
 class NoLock:
-    """Stands in for a table's lock in a forked child, where a thread that held it is no more."""
+    """Replaces a table's lock in a forked child, since the thread that held the lock may not exist there."""
 
     def __enter__(self) -> None:
         raise Forked(OF_THE_PARENT)
@@ -26,7 +26,7 @@ class NoLock:
 
 
 def leave_in_children(table: Any) -> None:
-    """Has the method `_leave` of a table called in each child that is forked while the table exists."""
+    """Registers a table: its method `_leave` is called in each child that is forked while the table exists."""
     _TABLES.add(table)
 
 

@@ -1,4 +1,4 @@
-"""Columns of pandas's frames and of Arrow's data, as keys and payloads."""
+"""Reads keys and payloads from columns of pandas frames and of Arrow data."""
 
 from __future__ import annotations
 
@@ -9,7 +9,7 @@ from .arrow import columns_of_stream
 
 
 def columns_of(frame: Any, key: Any, payload: Any) -> tuple[Any, Any]:
-    """The keys and payloads of a DataFrame or Series of pandas, or of Arrow's data."""
+    """The keys and payloads of a pandas DataFrame or Series, or of Arrow data."""
     if is_pandas(frame):
         return columns_of_pandas(frame, key, payload)
     if not hasattr(frame, "__arrow_c_stream__"):
@@ -18,12 +18,12 @@ def columns_of(frame: Any, key: Any, payload: Any) -> tuple[Any, Any]:
 
 
 def is_pandas(frame: Any) -> bool:
-    """Whether this is a frame or a series of pandas, or looks like one."""
+    """Whether this is a pandas DataFrame or Series, by its attributes."""
     return hasattr(frame, "index") and hasattr(frame, "iloc")
 
 
 def columns_of_pandas(frame: Any, key: Any = None, payload: Any = None) -> tuple[Any, Any]:
-    """The keys and payloads of a DataFrame, or of a Series. A gap is an error that names the first."""
+    """The keys and payloads of a DataFrame or a Series. Raises ValueError with the place of the first missing value."""
     if np is None or not is_pandas(frame):
         raise TypeError(f"from_pandas takes a DataFrame or a Series, not one of type {type(frame).__name__}")
     if key is None:
@@ -36,7 +36,7 @@ def columns_of_pandas(frame: Any, key: Any = None, payload: Any = None) -> tuple
 
 
 def column(frame: Any, name: Any) -> Any:
-    """A column of a frame by its name."""
+    """The column of a frame with this name. Raises ValueError if there are several."""
     if not hasattr(frame, "columns"):
         raise TypeError("a Series has no columns: its index has the keys, and it has the payloads")
     found = frame[name]
@@ -46,7 +46,7 @@ def column(frame: Any, name: Any) -> Any:
 
 
 def whole_column(frame: Any, found: Any, name: str) -> Any:
-    """The items of a column or an index, which errors call by this name; none may be missing."""
+    """The items of a column or an index, of which none may be missing. `name` is its name in errors."""
     if getattr(found, "nlevels", 1) != 1:
         raise TypeError("an index of several levels can't be the keys")
     is_missing = np.asarray(found.isna())
@@ -58,7 +58,7 @@ def whole_column(frame: Any, found: Any, name: str) -> Any:
 
 
 def columns_of_arrow(data: Any, key: Any = 0, payload: Any = None) -> tuple[Any, Any]:
-    """The keys and payloads of an object with a stream of Arrow; without `payload` they are 0, 1, 2 .."""
+    """The keys and payloads of an object with an Arrow stream. Without `payload` the payloads are 0, 1, 2 .."""
     if np is None:
         raise ImportError("Arrow's data needs numpy: pip install numpy")
     if not hasattr(data, "__arrow_c_stream__"):

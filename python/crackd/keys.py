@@ -1,4 +1,4 @@
-"""Maps keys of Python and numpy to a table's own keys, integers from 0 to 2**64 - 1, in the same order."""
+"""Maps keys of Python and numpy to numbers from 0 to 2**64 - 1, which have the order of the keys."""
 
 from __future__ import annotations
 
@@ -27,7 +27,7 @@ from .dates import Unit, array_of, is_date, moment_of, moment_of_text, of_numpy,
 
 NAMES = {"u": "unsigned integers", "i": "integers", "f": "floats", "M": "dates"}
 BY_NAME = {"uint64": "u", "int64": "i", "float64": "f"}
-# above this not every whole number is a float
+# above this number not every integer is exact as a float
 GREATEST_EXACT = 1 << 53
 FLOATS = {float} if np is None else {float, np.float64}
 
@@ -43,7 +43,7 @@ def _float_of(bits: int) -> float:
 
 
 def kind_of(keys: Any) -> "Keys":
-    """The kind of these keys: by the type of an array, else by the types of the items."""
+    """The type of these keys: by the type of the array, or else by the types of the items."""
     given = items_of(keys, "keys")
     if is_array(given):
         return Keys.of_dtype(given.dtype)
@@ -61,8 +61,11 @@ def kind_of(keys: Any) -> "Keys":
 
 
 class Keys:
-    """A kind of keys: 'u' unsigned and 'i' signed integers of 64 bits, 'f' floats, 'M' numpy's dates and times in one
-    unit."""
+    """A type of keys.
+
+    Its `kind` is 'u' for unsigned and 'i' for signed 64-bit integers, 'f' for floats, and 'M' for numpy's dates and
+    times in one unit, whose type is `dtype`.
+    """
 
     def __init__(self, kind: str, dtype: Any = None):
         self.kind, self.dtype = kind, dtype
@@ -79,13 +82,15 @@ class Keys:
 
     @staticmethod
     def named(name: Any) -> "Keys":
-        """The kind with a name such as "uint64", "int64", "float64" or "datetime64[ns]", of int or float, or of a numpy
-        type."""
+        """The type with a name such as "uint64", "int64", "float64" or "datetime64[ns]".
+
+        A numpy type, `int` and `float` may be given in place of a name.
+        """
         if isinstance(name, Keys):
             return name
         if name is int or name is float:
             return Keys("i" if name is int else "f")
-        # (None is a name of float64 in numpy)
+        # numpy takes None for float64
         if np is not None and name is not None:
             return Keys.of_dtype(np.dtype(name))
         if name in BY_NAME:
@@ -103,7 +108,7 @@ class Keys:
 
     @property
     def name(self) -> str:
-        """The name by which `named` gives this kind."""
+        """The name from which `named` makes this type."""
         return (
             str(self.dtype) if self.kind == "M" else next(name for name, kind in BY_NAME.items() if kind == self.kind)
         )
@@ -114,7 +119,7 @@ class Keys:
         return unit_of(self.dtype)
 
     def one(self, key: Any) -> int:
-        """The number of a key."""
+        """The number of a key. Raises an error if the key doesn't fit or has another type."""
         number: int
         if type(key) is not int or self.kind not in "ui":
             if self.kind == "f":
@@ -131,7 +136,7 @@ class Keys:
         return number
 
     def many(self, keys: Any) -> Any:
-        """The numbers of these keys, in a new array."""
+        """The numbers of these keys, as a new array."""
         if self.kind == "u":
             return ints("Q", keys, "keys")
         if self.kind == "i":
@@ -150,7 +155,7 @@ class Keys:
             return from_ints("Q", map(self._of_float, floats), "keys")
         if np.isnan(floats).any():
             raise ValueError("NaN can't be a key")
-        # (0.0 is added so that -0.0 and 0.0 are one key)
+        # adding 0.0 turns -0.0 into 0.0, so that they are one key
         bits = (floats + 0.0).view(np.uint64)
         return np.where(bits >> np.uint64(63), ~bits, bits | np.uint64(SIGN))
 
@@ -185,7 +190,7 @@ class Keys:
         return number + SIGN
 
     def back(self, found: Any) -> Any:
-        """The keys of these numbers."""
+        """The keys that have these numbers."""
         if self.kind == "u":
             return found
         if np is None:
@@ -199,7 +204,7 @@ class Keys:
         return signed.view(self.dtype) if self.kind == "M" else signed
 
     def back_one(self, number: int) -> Any:
-        """The key of a number."""
+        """The key that has this number."""
         if self.kind == "u":
             return number
         if self.kind == "f":
@@ -207,7 +212,7 @@ class Keys:
         return number - SIGN if self.kind == "i" else np.int64(number - SIGN).view(self.dtype)
 
     def bound(self, end: Any) -> int:
-        """The number of the least key that isn't below this end of a range, or 2**64 if there is none."""
+        """The number of the least key that is at or above this end of a range, or 2**64 if there is none."""
         if type(end) is not int or self.kind not in "ui":
             end = self._exact(end)
             if self.kind == "f":
@@ -222,10 +227,10 @@ class Keys:
         return number if 0 <= number <= TOP else 0 if number < 0 else TOP
 
     def _exact(self, end: Any) -> Any:
-        """An end as a number of Python, with which others compare exactly; for a date its moment."""
+        """An end as a Python number that compares exactly with others. For a date this is its moment."""
         if self.kind == "M":
             return moment_of_text(end) if isinstance(end, str) else moment_of(end, "the end of a range")
-        # (numpy compares and rounds its whole numbers as floats)
+        # numpy would convert its integers to floats when it compares or rounds them
         found = _item(end)
         if isinstance(found, NO_NUMBERS) or not isinstance(found, numbers.Real):
             raise TypeError(f"the end of a range of {NAMES[self.kind]} can't be of type {type(end).__name__}")
@@ -241,9 +246,9 @@ class Keys:
         return self._of_float(math.nextafter(number, math.inf) if number < end else number)
 
     def ends(self, low: Any, high: Any, place: Optional[int] = None) -> tuple[int, int]:
-        """The numbers of a range of keys, from the first up to but not including the second. None stands for no end.
+        """The numbers of a half-open range: the first, and one past the last. None means no end.
 
-        A low end above the high end is an error, which also says the range's place among many.
+        Raises ValueError if the low end is above the high end. `place` is the range's place among many, for the error.
         """
         first, end = 0 if low is None else self.bound(low), TOP if high is None else self.bound(high)
         if first >= end and low is not None and high is not None and self._exact(low) > self._exact(high):
@@ -252,8 +257,7 @@ class Keys:
         return first, end
 
     def ends_many(self, lows: Any, highs: Any) -> tuple[Any, Any]:
-        """The first and the last number of each range, in new arrays; if a range is empty the first is above the
-        last."""
+        """The first and last number of each range, as two new arrays. In an empty range the first is above the last."""
         if lows is None and highs is None:
             raise TypeError("low ends or high ends must be given, or both")
         lows, highs = (it if it is None else items_of(it, "the ends of ranges") for it in (lows, highs))
@@ -272,7 +276,7 @@ class Keys:
         return np.where(is_empty, np.uint64(1), starts), np.where(is_empty, np.uint64(0), ends - np.uint64(1))
 
     def _ends_that_are_keys(self, ends: Any, unbounded: int, count: int) -> Any:
-        """The numbers of ends, if all are keys; else None."""
+        """The numbers of the ends if all of them are keys, else None. `unbounded` stands for no end."""
         if np is None:
             return None
         if ends is None:
@@ -285,18 +289,18 @@ class Keys:
     def _ends_one_by_one(self, lows: Any, highs: Any, count: int) -> tuple[Any, Any]:
         ranges = zip(*([None] * count if it is None else listed(it) for it in (lows, highs)))
         ends = [self.ends(low, high, place) for place, (low, high) in enumerate(ranges)]
-        # (an empty range is written as the keys from 1 to 0)
+        # an empty range is stored as the keys from 1 to 0
         pairs = [(first, end - 1) if first < end else (1, 0) for first, end in ends]
         return from_ints("Q", [it[0] for it in pairs], "keys"), from_ints("Q", [it[1] for it in pairs], "keys")
 
 
 def listed(ends: Any) -> Any:
-    """Ends as a list, numbers as those of Python."""
+    """Ends as a list, with Python numbers in place of numpy's."""
     return ends.tolist() if is_array(ends) and ends.dtype.kind in "uif" else list(ends)
 
 
 def floats_of_array(given: Any) -> Any:
-    """An array of keys as floats, if they are exact as such."""
+    """Converts an array of keys to floats. Raises OverflowError if one isn't exact as a float."""
     if given.size and (given.dtype.kind not in "uif" or given.dtype.itemsize > 8):
         raise TypeError(f"keys must be floats, not {given.dtype}")
     if given.dtype.kind in "ui":
@@ -305,13 +309,13 @@ def floats_of_array(given: Any) -> Any:
 
 
 def floats_of_list(given: Any) -> Any:
-    """Keys as floats, if they are exact as such."""
+    """Converts a list of keys to floats. Raises OverflowError if one isn't exact as a float."""
     found = given if types_of(given) <= FLOATS else [exact_float(it) for it in given]
     return found if np is None else np.array(found, dtype=np.float64)
 
 
 def exact_float(key: Any) -> float:
-    """A key as a float, if it is exact as such; NaN is."""
+    """Converts a key to a float. Raises OverflowError if it isn't exact as a float. NaN is returned as it is."""
     if isinstance(key, NO_NUMBERS) or not isinstance(key, numbers.Real):
         raise TypeError(f"keys must be floats, not {type(key).__name__}")
     exact = _item(key)
@@ -325,7 +329,7 @@ def exact_float(key: Any) -> float:
 
 
 def _item(it: Any) -> Any:
-    """A number of numpy as one of Python, with all of its digits. Anything else stays as it is."""
+    """Converts a numpy number to a Python number without rounding. Returns anything else unchanged."""
     if np is None or not isinstance(it, np.generic) or it.dtype.kind not in "uif":
         return it
     is_long = it.dtype.itemsize > 8 and np.isfinite(it)
@@ -333,9 +337,9 @@ def _item(it: Any) -> Any:
 
 
 def quantiles(found: Sequence[int], parts: int, most: int = 10_000) -> list[int]:
-    """Splits that cut these numbers into nearly equal parts, as far as they differ: rising, each 1 to 2**64 - 1.
+    """Splits that divide these numbers into `parts` nearly equal parts, or fewer if few numbers differ.
 
-    Looks at about `most` of them.
+    They are in ascending order, each 1 to 2**64 - 1. About `most` of the numbers are examined.
     """
     drawn = found[:: max(1, len(found) // most)]
     drawn = np.sort(drawn).tolist() if is_array(drawn) else sorted(drawn)

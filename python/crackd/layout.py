@@ -1,4 +1,4 @@
-"""How a table's rows are laid out, and pictures of it."""
+"""The layout of a table's rows, and pictures of it."""
 
 from __future__ import annotations
 
@@ -7,21 +7,19 @@ from dataclasses import dataclass
 from typing import Iterator, Sequence
 
 from .arrays import SIGN, TOP
+from .drawing import styles
 from .keys import Keys
 
 MOST_BARS = 20
-# the least width of names, the greatest of bars, and that of a line with a wider name and a narrower bar
+# in characters: the least width of names, the greatest width of bars, and the width of lines; a wider name leaves less
+# room for its bar
 NAME_WIDTH, BAR_WIDTH, LINE_WIDTH = 24, 40, 80
-# the sizes of a picture as SVG, in pixels: the picture, a bar and the space below it, and the spaces for texts
+# sizes of the SVG picture in pixels: its width, the height of a bar, the gap below it, and the room for texts at the
+# left, at the top and at the bottom
 SVG_WIDTH, SVG_ROW, SVG_GAP, SVG_LEFT, SVG_HEAD, SVG_FOOT = 900, 22, 8, 130, 34, 28
-# what is drawn, with its colours on a light page and on a dark one
-COLOURS = {
-    "page": ("#ffffff", "#1e1e1e"),
-    "text": ("#333333", "#dddddd"),
-    "even": ("#4c78a8", "#6f9bd1"),
-    "odd": ("#9ecae9", "#2f5b8a"),
-    "pending": ("#f58518", "#ffa64d"),
-}
+# the colour of each thing drawn, by its class
+DRAWN = {"page": "page", "text": "text", "even": "blue", "odd": "pale", "pending": "brown"}
+RULES = [f".crackd-{name}{{fill:${colour}}}" for name, colour in DRAWN.items()]
 KEY = {"even": "a piece", "odd": "the next piece", "pending": "not merged yet"}
 UNSIGNED = Keys("u")
 
@@ -31,7 +29,7 @@ def rows_text(count: int) -> str:
 
 
 def keys_text(keys: Keys, low: int, high: int) -> str:
-    """The keys from one number up to but not including another."""
+    """The keys from the number `low` up to but not including `high`, in words."""
     if keys.kind in "ui":
         offset = SIGN if keys.kind == "i" else 0
         return f"{low - offset} to {high - 1 - offset}"
@@ -45,8 +43,10 @@ def keys_text(keys: Keys, low: int, high: int) -> str:
 
 @dataclass(frozen=True)
 class Piece:
-    """A piece of a column, or neighbours that are drawn as one: its keys, as numbers from `low` up to but not including
-    `high`, and how many rows it has."""
+    """A piece of a cracker column, or `joined` neighbouring pieces that are drawn as one.
+
+    Its keys are the numbers from `low` up to but not including `high`. `rows` is the number of rows in it.
+    """
 
     low: int
     high: int
@@ -58,9 +58,24 @@ class Piece:
 class PartLayout:
     """The layout of a partition.
 
-    `rows` is how many rows it has, and `column` the length of its column. `pending_out` of these are deleted and not
-    taken out yet, and `pending_in` rows are inserted and not merged yet. `free` of its `cells` are free. `pieces` are
-    the pieces of the column.
+    Attributes
+    ----------
+    partition : int
+        The number of the partition.
+    rows : int
+        The number of its rows.
+    column : int
+        The length of its cracker column.
+    pending_out : int
+        Pending deletions: rows that are deleted, but still in the column.
+    pending_in : int
+        Pending insertions: rows that are inserted, but not yet merged into the column.
+    cells, free : int
+        The number of cells, and how many of these are free.
+    pieces : tuple of Piece
+        The pieces of the column, in the order of their keys.
+    keys : Keys
+        The type of the keys.
     """
 
     partition: int
@@ -75,7 +90,7 @@ class PartLayout:
 
     @classmethod
     def read(cls, lines: Sequence[str], keys: Keys = UNSIGNED) -> "PartLayout":
-        """Reads the lines of a server's reply."""
+        """Reads a layout from the lines of a server's reply."""
         words = lines[0].split(" ")
         told = dict(zip(words[::2], map(int, words[1::2])))
         pieces = tuple(Piece(*map(int, line.split(" ")[1:])) for line in lines[1:])
@@ -93,17 +108,17 @@ class PartLayout:
 
     @property
     def ends(self) -> tuple[int, int]:
-        """The ends of the partition's keys, as numbers."""
+        """The first number of the partition's keys, and the one after the last."""
         return self.pieces[0].low, self.pieces[-1].high
 
     def bars(self) -> list[Piece]:
-        """The pieces as they are drawn: neighbours are joined until a screen holds them."""
+        """The pieces as they are drawn: neighbours are joined, so that there are at most `MOST_BARS`."""
         each = -(-len(self.pieces) // MOST_BARS)
         groups = [self.pieces[it : it + each] for it in range(0, len(self.pieces), each)]
         return [Piece(it[0].low, it[-1].high, sum(piece.rows for piece in it), len(it)) for it in groups]
 
     def drawn(self) -> Iterator[str]:
-        """The layout as lines: a bar for each piece of the column, and for what isn't merged yet."""
+        """The layout as lines of text: a bar for each piece, and for pending rows and free cells."""
         bars = [
             (keys_text(self.keys, it.low, it.high), it.rows, "#", f" in {it.joined} pieces" if it.joined > 1 else "")
             for it in self.bars()
@@ -125,8 +140,7 @@ class PartLayout:
 
 
 def bar(text: str, width: int, count: int, most: int, mark: str) -> str:
-    """A line with a bar, whose length is its count's part of the greatest count; a count above 0 has at least one
-    mark."""
+    """A line with a bar of `width * count / most` marks, rounded down; at least one mark if the count is above 0."""
     length = max(1, count * width // most) if count else 0
     return f"{text}{mark * length}".rstrip()
 
@@ -149,8 +163,10 @@ class Layout:
         return "\n".join(line for it in self.parts for line in it.drawn())
 
     def svg(self) -> str:
-        """The layout as an SVG image: a bar for each partition, with its pieces in two colours in turn, and then what
-        isn't merged yet. It is legible on light pages and on dark ones."""
+        """The layout as an SVG image, for light and dark pages.
+
+        It has a bar for each partition: its pieces in two alternating colours, and then its pending insertions.
+        """
         most = max((it.column + it.pending_in for it in self.parts), default=0) or 1
         scale = (SVG_WIDTH - SVG_LEFT - SVG_GAP) / most
         height = SVG_HEAD + len(self.parts) * (SVG_ROW + SVG_GAP) + SVG_FOOT
@@ -158,7 +174,8 @@ class Layout:
             f'<svg xmlns="http://www.w3.org/2000/svg" width="{SVG_WIDTH}" height="{height}" '
             f'viewBox="0 0 {SVG_WIDTH} {height}" font-family="sans-serif" font-size="12" role="img">',
             f"<title>{self.title()}</title>",
-            f"<style>{_styles()}</style>",
+            # in a notebook these rules apply to the whole page
+            styles(RULES),
             f'<rect class="crackd-page" width="{SVG_WIDTH}" height="{height}"/>',
             _text(SVG_GAP, 20, self.title(), " font-weight=\"bold\""),
         ]
@@ -167,7 +184,7 @@ class Layout:
         return "\n".join([*lines, *_svg_key(height - SVG_FOOT + SVG_GAP), "</svg>\n"])
 
     def title(self) -> str:
-        """What the picture shows, in a line."""
+        """The title of the picture, in one line."""
         parts = "1 partition" if len(self.parts) == 1 else f"{len(self.parts):,} partitions"
         pieces = sum(len(it.pieces) for it in self.parts)
         return f"{rows_text(self.rows)} in {parts}, {'1 piece' if pieces == 1 else f'{pieces:,} pieces'}"
@@ -175,12 +192,6 @@ class Layout:
     def _repr_svg_(self) -> str:
         """What a notebook shows."""
         return self.svg()
-
-
-def _styles() -> str:
-    """The colours of a light page, and those of a dark one. (In a notebook they hold for all of its page.)"""
-    light, dark = (" ".join(f".crackd-{name}{{fill:{them[at]}}}" for name, them in COLOURS.items()) for at in (0, 1))
-    return f"{light} @media (prefers-color-scheme: dark){{{dark}}}"
 
 
 def _text(left: float, base: int, text: str, more: str = "") -> str:
@@ -200,7 +211,7 @@ def _svg_row(part: PartLayout, top: int, scale: float) -> Iterator[str]:
 
 
 def _svg_key(top: int) -> Iterator[str]:
-    """What each colour stands for."""
+    """The legend: what each colour stands for."""
     for at, (name, text) in enumerate(KEY.items()):
         left = SVG_LEFT + at * 150
         yield f'<rect class="crackd-{name}" x="{left}" y="{top}" width="12" height="12"/>'

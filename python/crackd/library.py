@@ -1,4 +1,4 @@
-"""The library's functions, as crackd.h declares them."""
+"""Loads the library and declares its functions, as crackd.h does."""
 
 from __future__ import annotations
 
@@ -7,13 +7,13 @@ import os
 import pathlib
 from typing import TYPE_CHECKING, Any, Optional
 
-# what `make lib` and `make lib-unproved` build
+# the libraries that `make lib` and `make lib-unproved` build
 NAMES = ("libcrackd.so", "libcrackd-unproved.so")
 HERE = pathlib.Path(__file__).resolve().parent
 
 
 class Handle(ctypes.Structure):
-    """A table of the library. One that is all zero bytes is closed."""
+    """A handle of the library, which may hold a table. A handle whose bytes are all zero holds none."""
 
     _fields_ = [("at", ctypes.c_void_p), ("is_open", ctypes.c_bool)]
 
@@ -22,13 +22,13 @@ TOTALS = ("rows", "column", "pending_out", "pending_in", "cells", "free", "piece
 
 
 class Totals(ctypes.Structure):
-    """The layout of a partition, in numbers."""
+    """The numbers of a partition's layout, without its pieces."""
 
     _fields_ = [(name, ctypes.c_uint64) for name in TOTALS]
 
 
 _HANDLE, _U32, _U64, _I64 = ctypes.POINTER(Handle), ctypes.c_uint32, ctypes.c_uint64, ctypes.c_int64
-# (a pointer to a number, and a list: its address and its length)
+# a pointer to a number; a list, as its address and its length
 _AT, _LIST = ctypes.c_void_p, [ctypes.c_void_p, ctypes.c_size_t]
 
 FORMS = {
@@ -48,19 +48,23 @@ FORMS = {
     "count_many": [_HANDLE, _U32, *_LIST * 3, _AT],
     "sum_many": [_HANDLE, _U32, *_LIST * 4, _AT],
 }
+# these functions are loaded twice: under their own names they hold the interpreter's lock; with the prefix `long_` they
+# release it, as all other functions do
+SINGLE = ("insert", "delete", "update", "count", "sum")
+FORMS |= {f"long_{name}": FORMS[name] for name in SINGLE}
 
 
 class Library:
-    """The functions of crackd.h, without their prefix."""
+    """The functions of crackd.h, without the prefix `crackd_`."""
 
     if TYPE_CHECKING:
 
         def __getattr__(self, name: str) -> Any: ...
 
     def __init__(self, path: str):
-        loaded = ctypes.CDLL(path)
+        loaded, holding = ctypes.CDLL(path), ctypes.PyDLL(path)
         for name, form in FORMS.items():
-            call = getattr(loaded, f"crackd_{name}")
+            call = getattr(holding if name in SINGLE else loaded, f"crackd_{name.removeprefix('long_')}")
             call.argtypes, call.restype = form, _U32
             setattr(self, name, call)
         loaded.crackd_version.argtypes, loaded.crackd_version.restype = [], ctypes.c_char_p
@@ -71,14 +75,16 @@ _loaded: Optional[Library] = None
 
 
 def find_library() -> Optional[str]:
-    """The path of the library: what the variable CRACKD_LIBRARY says, or else the file in this package, if there is
-    one, the proved one before the other."""
+    """The path of the library, or None: the environment variable CRACKD_LIBRARY, or else the file in this package.
+
+    The proved library is preferred to the unproved one.
+    """
     named = os.environ.get("CRACKD_LIBRARY")
     return named or next((str(HERE / it) for it in NAMES if (HERE / it).exists()), None)
 
 
 def library() -> Library:
-    """The library, loaded once. Raises ImportError if it isn't built."""
+    """Returns the library, which the first call loads. Raises ImportError if it isn't built or can't be loaded."""
     global _loaded
     if _loaded is None:
         path = find_library()

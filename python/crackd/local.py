@@ -1,9 +1,11 @@
-"""A shard of a table: rows of a range of keys, in this process."""
+"""A shard: the rows of a range of keys, in this process."""
 
 from __future__ import annotations
 
 import array
 import threading
+import time
+from bisect import bisect_right
 from ctypes import byref, c_int64, c_uint8, c_uint32, c_uint64
 from typing import Any, Optional, Sequence
 
@@ -14,28 +16,38 @@ from .forks import NoLock, leave_in_children
 from .layout import PartLayout, Piece
 from .library import TOTALS, Handle, Totals, library
 from .placed import NOWHERE, Placed, PlacedOne, Taken, joined
-from .routing import shard_of
+from .routing import FEW_PARTS, shard_of
 from .typed import RowNumbers
 
 HISTORY = 65_536
 MOST_CELLS = 16_777_215
 MOST_LIFE = 1 << 40
-# (a history keeps the rows that selects listed, so it is emptied before these are many more than the shard's rows)
+# a history keeps the rows that selects listed, so histories are emptied once these exceed the shard's rows by more than
+# this many
 LISTED = 100_000
-# how many rows of a load are ordered by their partitions at a time, which needs some memory
+# A single call holds the interpreter's lock if it reads or moves at most this many rows. Then it takes about 4 ms at
+# most, and the interpreter itself lets a thread run for 5 ms. Releasing the lock and getting it back takes longer than
+# to answer such a call.
+SHORT_ROWS = 200_000
+# after this many changed rows and single calls, `_look` finds again how many rows a call may read
+LOOK = 5000
+# before a single call waits for the shard's lock, it checks `LOOKS` times whether another thread's call has ended, and
+# sleeps for `PAUSE` seconds before each check
+LOOKS, PAUSE = 100, 50e-6
+# how many rows of a load are sorted by partition at a time, which bounds the memory that this needs
 ROWS_AT_ONCE = 100_000
-# how much memory the library takes (measured: it says only how many cells and pieces there are), for a partition that
-# has rows, for a cell and for a piece
-BYTES_OF_A_PART, BYTES_OF_A_CELL, BYTES_OF_A_PIECE = 470_000, 125, 64
+# the bytes of memory that the library takes for a partition with rows, for a cell and for a piece. They are measured,
+# since the library reports only the numbers of cells and pieces.
+BYTES_OF_A_PART, BYTES_OF_A_CELL, BYTES_OF_A_PIECE = 320_000, 93, 64
 CLOSED = 101
 ARRAYS = (array.array,) if np is None else (array.array, np.ndarray)
 
 
 class LocalShard:
-    """The rows of a range of keys, in a handle of the library, which answers one call at a time.
+    """The rows of a range of keys, in a handle of the library. It answers one call at a time.
 
-    Keys are numbers of 64 bits, ranges have a first and a last one, and row numbers are those of the only shard. Its
-    methods are those that `AnyTable` wants, without the underscore.
+    Keys are 64-bit numbers, ranges are closed, and row numbers don't contain the shard's number. The methods are the
+    primitives of `AnyTable`, without the underscore.
     """
 
     def __init__(
@@ -48,20 +60,72 @@ class LocalShard:
         self._policy, self.cuts, self.partitions = POLICIES.index(policy), list(cuts), len(cuts) + 1
         limits = [it if 0 <= it < TOP else 0 for it in (history, cells, MOST_LIFE)]
         self._check(self._run(self._library.open, from_ints("Q", cuts, "splits"), *limits))
-        # (about how many rows were inserted and not deleted, and how many rows selects listed since the last
-        # checkpoints)
+        # about how many rows the shard has; how many rows selects have listed since the last checkpoints
         self.held = self._listed = 0
-        # (where the library writes the rows that single deletes remove)
+        # A call is short if it meets at most `_short_parts` partitions. All calls are short for `_left` more changes.
+        # If that is 0, `_look` finds these numbers again after `_until_look` more changes and calls.
+        self._left, self._until_look, self._short_parts = LOOK, 0, self.partitions
+        # where the library writes the rows that single deletes remove
         self._removed: Any = byref(c_uint64()), byref(c_int64())
+        # an object that identifies the single call that holds the shard's lock or waits for it, or None
+        self._asking: Any = None
 
     @property
     def is_asking(self) -> bool:
-        """Whether this thread is in a call of the shard, which the handler of a signal has interrupted."""
+        """Whether this thread is already in a call of the shard, which a signal handler has interrupted."""
         return bool(self._lock._is_owned())
 
+    def _is_short(self, first: int = 0, last: int = 0) -> bool:
+        """Whether a single call for a range of keys, or for one row, may hold the interpreter's lock.
+
+        If all calls may, sets `_left` to the number of changes for which this surely holds.
+        """
+        self._until_look -= 1
+        if self._until_look < 0:
+            self._look()
+        most = self._short_parts
+        return self.partitions <= most or bisect_right(self.cuts, last) - bisect_right(self.cuts, first) < most
+
+    def _look(self) -> None:
+        """Finds how many partitions a short call may meet, so that it reads few rows even after `LOOK` more changes."""
+        self._left, self._short_parts = 0, 0
+        try:
+            found = self._totals()
+        except Error:
+            # the call that follows raises the error
+            return
+        pending = sum(it.pending_in + it.pending_out for it in found)
+        # a change adds at most one row to a partition, and two pending rows
+        self._short_parts = (SHORT_ROWS - pending - 3 * LOOK) // max(1, *(it.column for it in found))
+        self._left, self._until_look = (LOOK, 0) if self.partitions <= self._short_parts else (0, LOOK)
+
+    def _changed(self, count: int) -> None:
+        """Notes how many rows were changed."""
+        self._left -= count
+        self._until_look -= count
+
+    def _give_way(self) -> None:
+        """Waits for the end of another thread's single call, if that ends soon.
+
+        The interpreter often suspends a thread in the middle of such a call. If other threads then waited for the
+        shard's lock, each later call would wake one of them and wait for it.
+        """
+        if self.is_asking:
+            return
+        seen = self._asking
+        for _ in range(LOOKS):
+            time.sleep(PAUSE)
+            if self._asking is None:
+                return
+        # a signal handler may have ended that call before it could reset `_asking`
+        if self._asking is seen:
+            self._asking = None
+
     def _run(self, call: Any, *words: Any) -> int:
-        """Calls a function of the library with numbers, pointers and arrays, which stay until it returns. Returns the
-        status."""
+        """Calls a function of the library. Returns its status.
+
+        The arguments are numbers, pointers, and arrays, which are kept alive until the function returns.
+        """
         flat: list[Any] = []
         for it in words:
             flat.extend(address(it) if isinstance(it, ARRAYS) else (it,))
@@ -79,63 +143,110 @@ class LocalShard:
                 raise Closed("the table is closed")
 
     def _leave(self) -> None:
-        """Lets go of the table in a forked child: each call raises `Forked`."""
-        self._lock = NoLock()
-        # (the parent's memory isn't freed here, since another of its threads may have been changing it)
+        """Gives up the table in a forked child: each call raises `Forked`."""
+        self._lock, self._asking = NoLock(), None
+        # the child doesn't free the table, since another thread of the parent may have been changing it at the fork
         self._handle = Handle()
         self._ref = byref(self._handle)
 
-    # (a signal is noticed once the library has returned, at the latest before the next call here, and its handler may
-    # raise anything: what is counted is counted in a `finally`, by what the library has written)
+    # A signal handler may run, and raise anything, as soon as the library has returned, at the latest before the next
+    # call here. So the methods below update their counts in a `finally` block, from what the library has written.
 
     def insert(self, key: int, payload: int) -> int:
         part, serial = c_uint32(NOWHERE), c_uint64()
-        with self._lock:
-            try:
-                self._check(self._library.insert(self._ref, key, payload, byref(part), byref(serial)))
-            finally:
-                self.held += part.value != NOWHERE
+        if self._asking is not None:
+            self._give_way()
+        try:
+            self._asking = part
+            with self._lock:
+                call = self._library.insert if self._left > 0 or self._is_short() else self._library.long_insert
+                code = call(self._ref, key, payload, byref(part), byref(serial))
+        finally:
+            self.held += part.value != NOWHERE
+            self._left -= 1
+            if self._asking is part:
+                self._asking = None
+        if code:
+            self._check(code)
         return part.value << SHIFT | serial.value
 
     def place(self, key: int, payload: int, placed: PlacedOne) -> None:
-        """Inserts a row."""
-        with self._lock:
-            try:
-                self._check(self._library.insert(self._ref, key, payload, *placed.at()))
-            finally:
-                self.held += placed.part.value != NOWHERE
+        """Inserts a row. The library writes its number into `placed`."""
+        if self._asking is not None:
+            self._give_way()
+        try:
+            self._asking = placed
+            with self._lock:
+                call = self._library.insert if self._left > 0 or self._is_short() else self._library.long_insert
+                code = call(self._ref, key, payload, *placed.at())
+        finally:
+            self.held += placed.part.value != NOWHERE
+            self._left -= 1
+            if self._asking is placed:
+                self._asking = None
+        if code:
+            self._check(code)
 
     def delete(self, row: int) -> bool:
         gone = c_uint8()
-        with self._lock:
-            try:
-                self._check(self._library.delete(self._ref, row >> SHIFT, row & SERIAL, byref(gone), *self._removed))
-            finally:
-                self.held -= gone.value
+        if self._asking is not None:
+            self._give_way()
+        try:
+            self._asking = gone
+            with self._lock:
+                call = self._library.delete if self._left > 0 or self._is_short() else self._library.long_delete
+                code = call(self._ref, row >> SHIFT, row & SERIAL, byref(gone), *self._removed)
+        finally:
+            self.held -= gone.value
+            self._left -= 1
+            if self._asking is gone:
+                self._asking = None
+        if code:
+            self._check(code)
         return gone.value == 1
 
     def take(self, row: int) -> Optional[tuple[int, int]]:
-        """Deletes a row. Returns its key and payload, if it existed."""
+        """Deletes a row. Returns its key and payload, or None if it didn't exist."""
         taken = Taken()
         self.take_into(row, taken)
         return taken.row
 
     def take_into(self, row: int, taken: Taken) -> None:
-        """Deletes a row."""
-        with self._lock:
-            try:
-                self._check(self._library.delete(self._ref, row >> SHIFT, row & SERIAL, *taken.at()))
-            finally:
-                self.held -= taken.gone.value
+        """Deletes a row. The library writes its key and payload into `taken`."""
+        if self._asking is not None:
+            self._give_way()
+        try:
+            self._asking = taken
+            with self._lock:
+                call = self._library.delete if self._left > 0 or self._is_short() else self._library.long_delete
+                code = call(self._ref, row >> SHIFT, row & SERIAL, *taken.at())
+        finally:
+            self.held -= taken.gone.value
+            self._left -= 1
+            if self._asking is taken:
+                self._asking = None
+        if code:
+            self._check(code)
 
     def alone(self) -> Any:
-        """Keeps other threads from the shard in a `with`."""
+        """A context that keeps other threads from the shard."""
         return self._lock
 
     def update(self, row: int, key: int, payload: int) -> bool:
         found = c_uint8()
-        with self._lock:
-            self._check(self._library.update(self._ref, row >> SHIFT, row & SERIAL, key, payload, byref(found)))
+        if self._asking is not None:
+            self._give_way()
+        try:
+            self._asking = found
+            with self._lock:
+                call = self._library.update if self._left > 0 or self._is_short() else self._library.long_update
+                code = call(self._ref, row >> SHIFT, row & SERIAL, key, payload, byref(found))
+        finally:
+            self._left -= 1
+            if self._asking is found:
+                self._asking = None
+        if code:
+            self._check(code)
         return found.value == 1
 
     def insert_many(self, keys: Any, payloads: Any) -> Any:
@@ -154,12 +265,15 @@ class LocalShard:
                 code = self._run(self._library.insert_many, *words)
             finally:
                 self.held += placed.done.value
+                self._changed(placed.done.value)
         self._check(code, placed.done.value)
         return placed.rows()
 
     def load_many(self, keys: Any, payloads: Any, placed: Placed) -> RowNumbers:
-        """Does what `place_many` does, in a table that is closed if this raises an error: then rows after the refused
-        one may be placed. It is faster, since the library gets a partition's rows one after the other."""
+        """Does what `place_many` does, but faster: the library gets the rows of a partition one after another.
+
+        Rows after a refused one may be inserted too, so the caller must close the table if this raises an error.
+        """
         if self.partitions == 1 or np is None:
             return self.place_many(keys, payloads, placed)
         for at in range(0, len(keys), ROWS_AT_ONCE):
@@ -167,8 +281,8 @@ class LocalShard:
         return placed.rows()
 
     def _load_block(self, keys: Any, payloads: Any, placed: Placed) -> None:
-        """Inserts the rows that follow those that are placed, partition by partition."""
-        parts = shard_of(np.array(self.cuts, np.uint64), keys).astype(np.uint8)
+        """Inserts the next rows of a load, partition by partition."""
+        parts = shard_of(np.array(self.cuts, np.uint64), keys, FEW_PARTS).astype(np.uint8)
         order = np.argsort(parts, kind="stable")
         keys, payloads, at, before = keys[order], payloads[order], 0, placed.done.value
         refusals: dict[int, int] = {}
@@ -180,7 +294,7 @@ class LocalShard:
                 refusals[int(order[at + error.done])] = error.code
             placed.put(order[at : at + each.done.value] + before, each.rows())
             at += each.done.value
-            # (a row of another partition that is refused too may come before)
+            # skips the rest of the refused row's partition; another partition may have a refused row that comes earlier
             at += int(np.count_nonzero(parts[order[at:]] == parts[order[at]])) if at < len(order) else 0
         first = min(refusals, default=len(order))
         placed.done.value = before + first
@@ -196,46 +310,72 @@ class LocalShard:
                 if self._handle.is_open:
                     self.held = self.rows()
                 raise
+            finally:
+                self._changed(done.value)
         self._check(code, done.value)
         return found
 
     def update_many(self, rows: Any, keys: Any, payloads: Any) -> Any:
         (parts, serials), found, done = _parted(rows), empty("B", len(rows)), c_uint64()
-        self._check(
-            self._run(self._library.update_many, parts, serials, keys, payloads, found, byref(done)), done.value
-        )
+        with self._lock:
+            try:
+                code = self._run(self._library.update_many, parts, serials, keys, payloads, found, byref(done))
+            finally:
+                self._changed(done.value)
+        self._check(code, done.value)
         return found
 
     def count(self, first: int, last: int) -> int:
         count = c_uint64()
-        with self._lock:
-            self._check(self._library.count(self._ref, self._policy, first, last, byref(count)))
+        if self._asking is not None:
+            self._give_way()
+        try:
+            self._asking = count
+            with self._lock:
+                is_short = self._left > 0 or self._is_short(first, last)
+                call = self._library.count if is_short else self._library.long_count
+                code = call(self._ref, self._policy, first, last, byref(count))
+        finally:
+            if self._asking is count:
+                self._asking = None
+        if code:
+            self._check(code)
         return count.value
 
     def sum(self, first: int, last: int) -> int:
         low, high = c_uint64(), c_int64()
-        with self._lock:
-            self._check(self._library.sum(self._ref, self._policy, first, last, byref(low), byref(high)))
+        if self._asking is not None:
+            self._give_way()
+        try:
+            self._asking = low
+            with self._lock:
+                is_short = self._left > 0 or self._is_short(first, last)
+                call = self._library.sum if is_short else self._library.long_sum
+                code = call(self._ref, self._policy, first, last, byref(low), byref(high))
+        finally:
+            if self._asking is low:
+                self._asking = None
+        if code:
+            self._check(code)
         return low.value + (high.value << 64)
 
     def count_many(self, firsts: Any, lasts: Any) -> Any:
-        counts = self._ask_many(firsts, lasts, ("Q",))[0]
+        counts = self._ask_many(self._library.count_many, firsts, lasts, "Q")[0]
         return counts.view(np.int64) if np is not None else counts
 
     def sum_many(self, firsts: Any, lasts: Any) -> list[int]:
-        lows, highs = self._ask_many(firsts, lasts, ("Q", "q"))
+        lows, highs = self._ask_many(self._library.sum_many, firsts, lasts, "Qq")
         return [low + (high << 64) for low, high in zip(plain(lows), plain(highs))]
 
-    def _ask_many(self, firsts: Any, lasts: Any, codes: Sequence[str]) -> list[Any]:
-        """The answers for many ranges, a list for each code. An empty range isn't asked, and its answer is 0."""
+    def _ask_many(self, call: Any, firsts: Any, lasts: Any, codes: str) -> list[Any]:
+        """What a call answers for many ranges, as an array for each type code. The answer for an empty range is 0."""
         whole, size, done = _not_empty(firsts, lasts), len(firsts), c_uint64()
         if whole is not None:
             firsts, lasts = _picked("Q", firsts, whole), _picked("Q", lasts, whole)
         answers = [empty(code, len(firsts)) for code in codes]
-        call = self._library.count_many if len(codes) == 1 else self._library.sum_many
         code = self._run(call, self._policy, firsts, lasts, *answers, byref(done))
         if whole is not None and done.value < len(whole):
-            # (the empty ranges before the refused one are done as well)
+            # empty ranges before the refused one count as done
             done.value = int(whole[done.value])
         self._check(code, done.value)
         return answers if whole is None else [_spread(code, it, whole, size) for code, it in zip(codes, answers)]
@@ -250,7 +390,7 @@ class LocalShard:
                 self._listed += found.value
                 if self._listed > self.held + LISTED:
                     self._fold()
-                # (a handler of a signal may have changed the table after the count)
+                # if not, a signal handler has changed the table after the count
                 if found.value == room:
                     break
                 room = found.value
@@ -259,7 +399,9 @@ class LocalShard:
     def settle(self) -> None:
         count = c_uint64()
         with self._lock:
-            self._check(self._library.count(self._ref, POLICIES.index("complete"), 0, TOP - 1, byref(count)))
+            self._check(self._library.long_count(self._ref, POLICIES.index("complete"), 0, TOP - 1, byref(count)))
+            # no row is pending now, so more calls may be short
+            self._until_look = 0
 
     def checkpoint(self) -> int:
         with self._lock:
@@ -276,7 +418,7 @@ class LocalShard:
         return sum(it.rows for it in self._totals())
 
     def memory(self) -> int:
-        """About how many bytes the library has taken for the rows, by its layouts; histories take more."""
+        """About how many bytes the library takes for the rows, estimated from the layouts. Excludes histories."""
         parts = [it for it in self._totals() if it.cells]
         return sum(BYTES_OF_A_PART + it.cells * BYTES_OF_A_CELL + it.pieces * BYTES_OF_A_PIECE for it in parts)
 
@@ -306,7 +448,7 @@ class LocalShard:
         return PartLayout(part, **{name: getattr(totals, name) for name in TOTALS[:6]}, pieces=pieces)
 
     def close(self) -> None:
-        """Frees all that the shard took. A second call does nothing."""
+        """Frees all memory of the shard. A second call does nothing."""
         with self._lock:
             if self._handle.is_open:
                 self._library.close(self._ref)
@@ -326,7 +468,7 @@ def _parted(rows: Any) -> tuple[Any, Any]:
 
 
 def _not_empty(firsts: Any, lasts: Any) -> Any:
-    """The places of the ranges that aren't empty, or None if all are such."""
+    """The places of the ranges that aren't empty, or None if none is empty."""
     if np is not None:
         is_whole = firsts <= lasts
         return None if is_whole.all() else np.flatnonzero(is_whole)
@@ -339,7 +481,7 @@ def _picked(code: str, numbers: Any, places: Any) -> Any:
 
 
 def _spread(code: str, answers: Any, places: Any, size: int) -> Any:
-    """Answers at their places, and 0 elsewhere."""
+    """An array of this size with the answers at their places and 0 elsewhere."""
     if np is not None:
         found = np.zeros(size, dtype=answers.dtype)
         found[places] = answers

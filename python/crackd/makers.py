@@ -1,4 +1,4 @@
-"""Ways to make a table of this process from what one has."""
+"""Class methods that make a table in this process from frames, Arrow data and files."""
 
 from __future__ import annotations
 
@@ -14,7 +14,7 @@ Other = TypeVar("Other", bound=AnyTable)
 
 
 class TableHere(AnyTable):
-    """A table in this process, however it was made."""
+    """A table in this process."""
 
     _is_here = True
     shards: int
@@ -23,54 +23,54 @@ class TableHere(AnyTable):
     @classmethod
     @abc.abstractmethod
     def from_arrays(cls, keys: Any, payloads: Any = None, **options: Any) -> Self:
-        """A table of these rows."""
+        """Creates a table of these rows."""
 
     @classmethod
     def from_pandas(cls, frame: Any, key: Any = None, payload: Any = None, **options: Any) -> Self:
-        """A table of the rows of a DataFrame or Series, all merged.
+        """Creates a table of the rows of a DataFrame or Series and merges them all.
 
         Parameters
         ----------
         frame : pandas.DataFrame or pandas.Series
         key, payload : label, optional
-            The columns. Without `key` the index has the keys. Without `payload` payloads are the values of a Series, or
-            else 0, 1, 2 .., which is `frame.iloc`'s numbering.
+            The columns. Without `key` the keys are the index. Without `payload` the payloads are the values of a
+            Series, or else 0, 1, 2 .., the positions that `frame.iloc` takes.
         **options
-            Those of `Table`, and `progress` of `from_arrays`.
+            Parameters of `Table`, and `progress` of `from_arrays`.
 
         Returns
         -------
         Table
-            `row_numbers` has the numbers of the rows, in the order of the frame.
+            Its `row_numbers` are the numbers of the rows, in the order of the frame.
 
         Raises
         ------
         ValueError
-            If an item is missing. The error names the first.
+            If a value is missing. The message names the first one.
 
         Notes
         -----
-        Columns whose integers may be missing are taken if none is; dates with a time zone are in UTC.
+        Nullable integer columns are accepted if no value is missing. Dates with a time zone become UTC.
         """
         return cls.from_arrays(*columns_of_pandas(frame, key, payload), **options)
 
     @classmethod
     def from_arrow(cls, data: Any, key: Any = 0, payload: Any = None, **options: Any) -> Self:
-        """A table of the rows of Arrow's data, all merged.
+        """Creates a table of the rows of Arrow data and merges them all.
 
         Parameters
         ----------
         data : object
-            Any with the method `__arrow_c_stream__`, such as a table of pyarrow or a frame of polars.
+            An object with the method `__arrow_c_stream__`, such as a pyarrow Table or a polars DataFrame.
         key, payload : str or int, optional
-            The columns, by name or number. Without `payload` payloads are 0, 1, 2 ..
+            The columns, by name or number. Without `payload` the payloads are 0, 1, 2 ..
         **options
-            Those of `Table`, and `progress` of `from_arrays`.
+            Parameters of `Table`, and `progress` of `from_arrays`.
 
         Returns
         -------
         Table
-            `row_numbers` has the numbers of the rows, in the order of the data.
+            Its `row_numbers` are the numbers of the rows, in the order of the data.
         """
         return cls.from_arrays(*columns_of_arrow(data, key, payload), **options)
 
@@ -84,10 +84,10 @@ class TableHere(AnyTable):
 
     @classmethod
     def load(cls, path: Any, *, into: Any = None, progress: Progress = None, **options: Any) -> Any:
-        """Reads rows that `save` wrote into a new table, or `into` another one, and merges them.
+        """Loads the rows of a file that `save` wrote into a new table, or into the table `into`, and merges them.
 
-        Rows get new numbers. A file that no `save` has written raises `BadSave`. Without `into` the options are those
-        of `Table`.
+        Rows get new numbers. Raises `BadSave` if the file isn't one that `save` writes. Options are those of `Table`,
+        and only for a new table.
         """
         kind, rows = read_rows(path)
         if into is None:
@@ -100,7 +100,7 @@ class TableHere(AnyTable):
 
     @abc.abstractmethod
     def _memory(self) -> int:
-        """About how many bytes the rows take."""
+        """About how many bytes of memory the rows take."""
 
     def _facts(self) -> Iterator[tuple[str, str]]:
         if self.shards > 1:

@@ -1,8 +1,8 @@
-"""Columns of a CSV file as pandas reads them, many times faster, where it surely reads what `csvfile` does.
+"""Reads columns of a CSV file by pandas, many times faster, where it surely reads the same as `csvfile`.
 
-pandas guesses: it takes 1.0 for an integer, and a record that is too short for one with gaps. So it only says what a
-column looks like, and where that isn't exactly what was asked for, the file is read by `csvfile`, which also finds the
-place of a fault.
+pandas guesses: it takes 1.0 for an integer, and a record that is too short for one with missing values. So it only
+infers the type of each column. If that isn't exactly the type asked for, `csvfile` reads the file, which also finds the
+place of an error.
 """
 
 from __future__ import annotations
@@ -16,14 +16,14 @@ from typing import Any, Optional, Sequence
 
 from .arrays import np
 
-# (importing pandas takes as long as reading about this many bytes without it)
+# importing pandas takes as long as reading a file of about this many bytes without it
 LEAST_BYTES = 8_000_000
 CHARACTERS_AT_ONCE = 1 << 20
 FIELDS_AT_ONCE = 20_000
 
 
 def columns_of_pandas(file: Any, columns: Sequence[tuple[Any, Any]]) -> Optional[list[Any]]:
-    """The numbers of these columns of a `CsvFile`, as arrays; None if it must be read record by record."""
+    """The numbers in these columns of a `CsvFile`, as arrays, or None if the file must be read record by record."""
     pandas = pandas_for(file.path)
     if pandas is None or not file.delimiter.isascii():
         return None
@@ -40,7 +40,7 @@ def columns_of_pandas(file: Any, columns: Sequence[tuple[Any, Any]]) -> Optional
 
 
 def pandas_for(path: str) -> Any:
-    """pandas, if it is there and a file is worth its import."""
+    """The module pandas, or None if it isn't installed or the file is too small to be worth importing it."""
     if np is None or "pandas" not in sys.modules and (
         os.path.getsize(path) < LEAST_BYTES or importlib.util.find_spec("pandas") is None
     ):
@@ -52,7 +52,7 @@ def pandas_for(path: str) -> Any:
 
 
 def fields_of(file: Any, columns: Sequence[tuple[Any, Any]]) -> Optional[tuple[bool, list[int]]]:
-    """Whether the first line is a header, and the numbers of the columns; None if it isn't a record."""
+    """Whether the first line is a header, and the numbers of the columns. None if that line isn't a whole record."""
     with open(file.path, encoding=file.encoding, newline="") as text:
         records = csv.reader(text, delimiter=file.delimiter)
         try:
@@ -66,28 +66,28 @@ def fields_of(file: Any, columns: Sequence[tuple[Any, Any]]) -> Optional[tuple[b
 
 
 def is_text(file: Any) -> bool:
-    """Whether a file has no zero byte, where pandas would end a field. What isn't of its encoding is an error."""
+    """Whether a file has no zero character, at which pandas would end a field. Raises an error for a wrong encoding."""
     with open(file.path, encoding=file.encoding, newline="") as text:
         return all("\0" not in it for it in iter(lambda: text.read(CHARACTERS_AT_ONCE), ""))
 
 
 def read(pandas: Any, file: Any, is_header: bool, places: list[int], texts: dict[int, type[str]]) -> Any:
-    """The columns at these places. Nothing is taken for missing, and a blank line is a record with empty fields."""
+    """Reads the columns at these places. No value counts as missing, and a blank line is a record of empty fields."""
     how: dict[str, Any] = {"na_filter": False, "skip_blank_lines": False, "index_col": False}
     how["float_precision"] = "round_trip"
     how |= {"engine": "c", "low_memory": False, "header": None, "skiprows": int(is_header)}
-    # (of a path it would guess whether the file is compressed)
+    # an open file is passed, since pandas guesses from a path whether the file is compressed
     with open(file.path, encoding=file.encoding, newline="") as text:
         return pandas.read_csv(text, sep=file.delimiter, usecols=sorted(set(places)), dtype=texts or None, **how)
 
 
 def is_read_as_text(column: Any) -> bool:
-    """Whether pandas can't read the numbers of a column exactly: dates and decimals."""
+    """Whether a column is read as text, since pandas can't read it exactly: dates and decimals."""
     return column.format is not None or column.decimals > 0
 
 
 def numbers_of(column: Any, items: Any) -> Any:
-    """A column's numbers, if its items are nothing else; else a ValueError."""
+    """The numbers of a column. Raises ValueError if it has anything else than the numbers asked for."""
     if is_read_as_text(column):
         return numbers_of_text(column, items)
     if column.is_float:
@@ -100,7 +100,7 @@ def numbers_of(column: Any, items: Any) -> Any:
 
 
 def numbers_of_text(column: Any, items: Any) -> Any:
-    """The numbers of dates or decimals as text."""
+    """The numbers of dates or decimals that were read as text."""
     blocks = (items[at : at + FIELDS_AT_ONCE].tolist() for at in range(0, len(items), FIELDS_AT_ONCE))
     dtype = np.int64 if column.code == "q" else np.uint64
     return np.concatenate([np.array(column.read_all(it), dtype) for it in blocks])

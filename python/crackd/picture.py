@@ -1,7 +1,7 @@
-"""Pictures of a column as queries crack it: python3 -m crackd picture SCRIPT.
+"""Draws a cracker column as the queries of a script crack it: python3 -m crackd picture SCRIPT.
 
-The script is run by `crackd script`, with a layout before and after each count, sum and select, which changes nothing.
-A picture is the same on every machine: no time is measured.
+`crackd script` runs the script, with a `layout` statement before and after each count, sum and select; a layout changes
+nothing. No time is measured, so a picture is the same on every machine.
 """
 
 from __future__ import annotations
@@ -16,42 +16,34 @@ from typing import Iterable, Iterator, Optional, Sequence
 
 from .arrays import TOP
 from .base import POLICIES
+from .drawing import COLOURS, LETTER, LINE, POLICY_COLOURS, WIDTH, document, key, styles, words
 from .errors import Error
 from .layout import PartLayout, rows_text
 from .server import called, find_program
 
 QUERIES = ("count", "sum", "select")
-# in pixels: the picture, its strips and bars, and the space for a statement before a strip
-WIDTH, LEFT, STRIP_WIDTH, STRIP, ROW, HEAD, FOOT = 900, 212, 466, 18, 26, 44, 34
-BAR_LEFT, BAR_WIDTH = LEFT + STRIP_WIDTH + 16, 140
-# how many shades pieces have: the first is that of a piece without rows, the last that of the largest
+# in pixels: where strips and bars begin, how wide and high they are, and the height of a query, of the head and of the
+# foot
+LEFT, STRIP_WIDTH, STRIP, ROW, HEAD, FOOT = 8, 300, 12, 38, 48, 52
+BAR_LEFT, BAR_WIDTH = LEFT + STRIP_WIDTH + 12, 56
+# the number of shades of pieces: the first is for a piece without rows, the last for the largest piece
 SHADES = 16
-# the first shade and the last, of a light page and of a dark one
-ENDS = (((226, 234, 245), (24, 61, 112)), ((43, 52, 64), (150, 200, 250)))
-# what else is drawn, with its colours on a light page and on a dark one
-COLOURS = {
-    "page": ("#ffffff", "#1b1f24"),
-    "text": ("#24292f", "#d0d7de"),
-    "faint": ("#6e7781", "#9aa4af"),
-    "grid": ("#d8dee4", "#3d444d"),
-    "mark": ("#c0392b", "#ff7b72"),
-    "bar": ("#e69f00", "#f0b93a"),
-    "complete": ("#56b4e9", "#9bd3f5"),
-    "gradual": ("#e69f00", "#f0b93a"),
-    "ripple": ("#d55e00", "#f5854a"),
-    "auto": ("#0072b2", "#4ba3e3"),
-}
 CHART_HEIGHT = 240
+RULES = [
+    ".page{fill:$page} .text,.title,.mark{fill:$text} .title{font-weight:bold} .faint{fill:$faint} .grid{fill:$grid}",
+    ".bar{fill:$blue} path,line{fill:none}",
+    *(f".{name}{{stroke:${colour}}}" for name, colour in POLICY_COLOURS.items()),
+    *(f".shade{it}{{fill:$shade{it}}}" for it in range(SHADES)),
+]
 
 
 class ScriptError(Error):
-    """A script can't be drawn."""
+    """A script couldn't be drawn."""
 
 
 @dataclass(frozen=True)
 class Query:
-    """A query of a script: its text, the ends of its range, the first line of its reply, and the layouts before and
-    after it."""
+    """A query of a script: its text, its range, the first line of its reply, and the layouts before and after it."""
 
     text: str
     low: int
@@ -61,34 +53,34 @@ class Query:
     after: PartLayout
 
     def new_bounds(self) -> list[int]:
-        """The bounds that the query added to the column."""
+        """The bounds that the query added to the cracker index."""
         old = {it.low for it in self.before.pieces}
         return [it.low for it in self.after.pieces if it.low not in old]
 
     def merged(self) -> int:
-        """How many rows the query merged at least: how many fewer are pending."""
+        """The least number of rows that the query merged, by the change in the number of pending rows."""
         return abs(self.before.pending_in - self.after.pending_in) + max(
             0, self.before.pending_out - self.after.pending_out
         )
 
     def cracked(self) -> int:
-        """How many rows the pieces had that the query cracked."""
+        """The number of rows in the pieces that the query cracked."""
         bounds = self.new_bounds()
         return sum(it.rows for it in self.before.pieces if any(it.low < bound < it.high for bound in bounds))
 
     def work(self) -> int:
-        """How many rows the query cracked or merged."""
+        """The number of rows that the query cracked or merged."""
         return self.cracked() + self.merged()
 
 
 def statements_of_csv(lines: Iterable[str]) -> list[str]:
-    """An insert for each line `key,payload`."""
+    """An insert statement for each line `key,payload`."""
     fields = (it.strip().split(",") for it in lines if it.strip())
     return [f"insert {key} {payload}" for key, payload in fields if key != "key"]
 
 
 def as_program_reads(line: str) -> str:
-    """A statement without a `;` at its end, and with a number for the word `end` of a range, as in the shell."""
+    """A statement as the program reads it: without a final `;`, and with a number for the word `end` of the shell."""
     words = line.strip().removesuffix(";").split()
     is_query = bool(words) and words[0] in QUERIES
     return " ".join(str(TOP) if is_query and it == "end" else it for it in words)
@@ -102,14 +94,17 @@ def with_layouts(statements: Sequence[str], partition: int) -> Iterator[str]:
 
 
 def replies(lines: Iterator[str]) -> Iterator[list[str]]:
-    """The lines of each reply. The last word of the first line of rows and layouts is how many lines follow."""
+    """Yields the lines of each reply.
+
+    The first line of a list of rows, a layout or stats ends with the number of lines that follow it.
+    """
     for line in lines:
-        more = int(line.split()[-1]) if line.startswith(("rows ", "layout ")) else 0
+        more = int(line.split()[-1]) if line.startswith(("rows ", "layout ", "stats ")) else 0
         yield [line, *itertools.islice(lines, more)]
 
 
 def run(program: str, statements: Sequence[str], partition: int, words: Sequence[str]) -> list[Query]:
-    """Runs a script, and returns its queries with the program's answers."""
+    """Runs a script. Returns its queries with the program's replies."""
     asked = [it for it in with_layouts(statements, partition) if it.strip()]
     ran = subprocess.run(
         [program, "script", *words],
@@ -147,27 +142,21 @@ def keys_in(statements: Iterable[str]) -> tuple[int, int]:
 
 
 def shade(share: float) -> str:
-    """The class of a piece with this share of the rows of the largest."""
+    """The class of a piece. `share` is its number of rows divided by that of the largest piece."""
     return f"shade{round(share**0.5 * (SHADES - 1))}"
 
 
-def styles() -> str:
-    """The colours of a light page, and those of a dark one."""
-    light, dark = (" ".join(rules(at)) for at in (0, 1))
-    return f"<style>{light} @media (prefers-color-scheme: dark){{{dark}}}</style>"
+def mixed(one: str, other: str, share: float) -> str:
+    """The colour between two at this share of the way from the first to the second."""
+    pairs = ((int(one[it : it + 2], 16), int(other[it : it + 2], 16)) for it in (1, 3, 5))
+    return "#" + "".join(f"{round(first + (last - first) * share):02x}" for first, last in pairs)
 
 
-def rules(at: int) -> Iterator[str]:
-    for name, them in COLOURS.items():
-        yield f".{name}{{{'stroke' if name in POLICIES else 'fill'}:{them[at]}}}"
-    first, last = ENDS[at]
-    for step in range(SHADES):
-        mixed = (round(it + (end - it) * step / (SHADES - 1)) for it, end in zip(first, last))
-        yield f".shade{step}{{fill:#{''.join(f'{it:02x}' for it in mixed)}}}"
-
-
-def words(x: float, y: float, text: str, anchor: str = "start", kind: str = "text") -> str:
-    return f'<text class="{kind}" x="{x:.1f}" y="{y:.1f}" text-anchor="{anchor}">{html.escape(text)}</text>'
+def style() -> str:
+    """The style of the pictures, with colours for light and for dark pages."""
+    (light, dark), (full, bright) = COLOURS["empty"], COLOURS["blue"]
+    shares = {f"shade{it}": it / (SHADES - 1) for it in range(SHADES)}
+    return styles(RULES, **{name: (mixed(light, full, it), mixed(dark, bright, it)) for name, it in shares.items()})
 
 
 def box(x: float, y: float, width: float, height: float, kind: str, title: str = "") -> str:
@@ -176,17 +165,11 @@ def box(x: float, y: float, width: float, height: float, kind: str, title: str =
     return f'<rect class="{kind}" {where}>{said}</rect>'
 
 
-def document(height: int, title: str, parts: Iterable[str]) -> str:
-    box_of_view = f'viewBox="0 0 {WIDTH} {height}"'
-    head = f'<svg xmlns="http://www.w3.org/2000/svg" {box_of_view} font-family="sans-serif" font-size="12" role="img">'
-    return "\n".join(
-        [head, f"<title>{title}</title>", styles(), box(0, 0, WIDTH, height, "page"), *parts, "</svg>\n"]
-    )
-
-
 def strip(query: Query, top: float, low: int, high: int, rows: int) -> Iterator[str]:
-    """The pieces after a query, each as wide as its keys and stronger with more rows; the query's range and its new
-    bounds."""
+    """Draws the pieces after a query, the query's range, and its new bounds.
+
+    The width of a piece is that of its range of keys. Its colour is stronger the more rows it has.
+    """
 
     def across(key: int) -> float:
         return LEFT + (min(max(key, low), high) - low) / (high - low) * STRIP_WIDTH
@@ -203,64 +186,62 @@ def strip(query: Query, top: float, low: int, high: int, rows: int) -> Iterator[
                 shade(it.rows / rows),
                 f"{it.low} to {it.high - 1}: {rows_text(it.rows)}",
             )
-    yield box(across(query.low), top - 3, across(query.high) - across(query.low), 2, "mark")
+    yield box(across(query.low), top - 4, across(query.high) - across(query.low), 2, "mark")
     for bound in query.new_bounds():
         if low < bound < high:
-            yield box(across(bound) - 1, top - 3, 1.4, STRIP + 3, "mark")
+            yield box(across(bound) - 1, top - 4, 1.4, STRIP + 6, "mark")
 
 
 def cracking(queries: Sequence[Query], low: int, high: int) -> str:
-    """A column as queries crack it: keys across, queries down, and beside each how many rows it cracked or merged."""
+    """Draws a column as queries crack it: keys across, queries down, and for each the rows it cracked or merged."""
     rows = max([1, *(piece.rows for it in queries for piece in it.after.pieces)])
     most = max([1, *(it.work() for it in queries)])
-    parts = [words(LEFT, 18, "the column after each query, by key"), words(BAR_LEFT, 18, "rows it cracked or merged")]
-    parts += [words(LEFT, 36, str(low), kind="faint"), words(LEFT + STRIP_WIDTH, 36, str(high - 1), "end", "faint")]
+    parts = [words(LEFT, 40, str(low), kind="faint"), words(LEFT + STRIP_WIDTH, 40, str(high - 1), "end", "faint")]
+    parts.append(words(WIDTH - 8, 20, "rows cracked or merged", "end"))
     for at, it in enumerate(queries):
-        top = HEAD + at * ROW
-        parts.append(words(LEFT - 10, top + 13, it.text.replace(str(TOP), "end"), "end"))
+        top = HEAD + at * ROW + 19
+        parts.append(words(LEFT, top - 7, it.text.replace(str(TOP), "end")))
         parts += strip(it, top, low, high, rows)
         width = it.work() / most * BAR_WIDTH
         parts += [
-            box(BAR_LEFT, top + 2, max(width, 1), STRIP - 4, "bar"),
-            words(BAR_LEFT + width + 6, top + 13, f"{it.work():,}"),
+            box(BAR_LEFT, top, max(width, 1), STRIP, "bar"),
+            words(BAR_LEFT + width + 6, top + 11, f"{it.work():,}"),
         ]
-    foot = HEAD + len(queries) * ROW + 16
-    parts.append(box(LEFT, foot - 9, 12, 10, shade(1)))
-    parts.append(words(LEFT + 18, foot, "a piece: the stronger, the more rows in no order"))
-    parts += [box(LEFT + 310, foot - 6, 22, 2, "mark"), words(LEFT + 338, foot, "a query's range and its new bounds")]
-    title = "A column as queries crack it, and how many rows each cracked or merged"
-    return document(HEAD + len(queries) * ROW + FOOT, title, parts)
+    foot = HEAD + len(queries) * ROW + 18
+    parts += [box(LEFT, foot - 11, 16, STRIP, shade(1)), box(LEFT, foot + 15, 16, 2, "mark")]
+    parts.append(words(LEFT + 24, foot, "a piece: the stronger, the more rows in no order"))
+    parts.append(words(LEFT + 24, foot + 20, "a query's range, and its new bounds"))
+    return document("A column as queries crack it", HEAD + len(queries) * ROW + FOOT, style(), parts)
 
 
 def pending(by_policy: dict[str, list[Query]]) -> str:
-    """How many rows are pending after each query, under each policy."""
+    """Draws the number of pending rows after each query, under each policy."""
     counts = {
         name: [it.after.pending_in + it.after.pending_out for it in queries] for name, queries in by_policy.items()
     }
     most = max([1, *(it for line in counts.values() for it in line)])
     last = max([1, *(len(line) - 1 for line in counts.values())])
-    left, right, top, bottom = 70, WIDTH - 130, 30, CHART_HEIGHT - 40
+    left, right, top, bottom = 16 + LETTER * len(f"{most:,}"), WIDTH - 16, 56, CHART_HEIGHT - 24
 
     def place(at: int, count: int) -> tuple[float, float]:
         return left + at / last * (right - left), bottom - count / most * (bottom - top)
 
-    parts = [words(left, 18, "rows that wait to be merged, after each query")]
+    parts = [words(8, 40, "rows, after each query", kind="faint")]
     for share in (0, 0.5, 1):
         y = bottom - share * (bottom - top)
         parts += [
             box(left, y, right - left, 0.7, "grid"),
-            words(left - 8, y + 4, f"{round(share * most):,}", "end", "faint"),
+            words(left - 8, y + 5, f"{round(share * most):,}", "end", "faint"),
         ]
-    parts += [words(left, bottom + 18, "first query", kind="faint"), words(right, bottom + 18, "last", "end", "faint")]
-    for at, (name, line) in enumerate(counts.items()):
+    parts += [words(left, bottom + 20, "first query", kind="faint"), words(right, bottom + 20, "last", "end", "faint")]
+    # later curves are thinner, so that curves that coincide are all visible
+    widths = {name: f' stroke-width="{9 - 2 * at}"' for at, name in enumerate(counts)}
+    for name, line in counts.items():
         path = "L".join("{:.1f} {:.1f}".format(*place(*it)) for it in enumerate(line))
-        y = top + 16 + at * 20
-        # (curves that lie on each other are all seen)
-        parts.append(f'<path class="{name}" d="M{path}" fill="none" stroke-width="{8 - 2 * at}"/>')
-        ends = f'x1="{right + 12}" x2="{right + 28}" y1="{y - 4}" y2="{y - 4}"'
-        parts.append(f'<line class="{name}" {ends} stroke-width="4"/>')
-        parts.append(words(right + 34, y, f"{name}: {line[-1]:,}"))
-    return document(CHART_HEIGHT, "Rows that wait to be merged after each query, under each policy", parts)
+        parts.append(f'<path class="{name}" d="M{path}"{widths[name]}/>')
+    names = [(name, widths[name], f"{name}: {line[-1]:,}") for name, line in counts.items()]
+    lines, height = key(names, CHART_HEIGHT + LINE)
+    return document("Rows that wait to be merged, by policy", round(height) - 8, style(), [*parts, *lines])
 
 
 def options_of(arguments: Sequence[str]) -> argparse.Namespace:

@@ -1,7 +1,7 @@
-"""Where the library writes the numbers of the rows that it places.
+"""Objects into which the library writes the numbers of the rows that it inserts.
 
-A method that inserts rows makes this before the library is called, so that it has the numbers of all placed rows
-whatever ends the call, and wherever: the interpreter looks for signals between almost any two steps.
+A method that inserts rows makes such an object before it calls the library. So it has the numbers of all inserted rows
+whatever ends the call and wherever that happens: a signal handler may raise an error between almost any two steps.
 """
 
 from __future__ import annotations
@@ -17,7 +17,7 @@ from .routing import SHARD_SHIFT, blocks_of, error_of, known_rows
 from .rows import SHIFT
 from .typed import RowNumbers
 
-# (no partition has this number: the library hasn't written one)
+# no partition has this number: it means that the library hasn't written one
 NOWHERE = 0xFFFF_FFFF
 
 Words = ParamSpec("Words")
@@ -25,37 +25,37 @@ Answer = TypeVar("Answer")
 
 
 class Placed:
-    """The rows that one call of the library places: their partitions and serials, and how many they are."""
+    """The rows that one call of the library inserts: their partitions and serials, and their number."""
 
     def __init__(self, size: int):
         self.parts, self.serials, self.done = empty("I", size), empty("Q", size), c_uint64()
-        # (after a refusal there may be no memory for the row numbers)
+        # allocated now, since after a refusal there may be no memory for the row numbers
         self._rows, self._is_put = empty("Q", size), False
 
     def rows(self) -> RowNumbers:
-        """The numbers of the rows that are placed."""
+        """The numbers of the rows inserted so far."""
         done = self.done.value
         found: RowNumbers = self._rows[:done] if self._is_put else joined(self.parts, self.serials, self._rows, done)
         return found
 
     def put(self, places: Any, rows: RowNumbers) -> None:
-        """Notes the numbers of rows that other calls have placed, by the places of these among all rows."""
+        """Stores the numbers of rows that other calls inserted, at the places of these rows among all rows."""
         self._rows[places], self._is_put = rows, True
 
 
 class PlacedOne:
-    """The row that one call of the library places."""
+    """The row that one call of the library inserts."""
 
     def __init__(self, shard: int):
         self.shard, self.part, self.serial = shard, c_uint32(NOWHERE), c_uint64()
 
     def at(self) -> tuple[Any, Any]:
-        """Where the library writes."""
+        """Pointers to what the library writes."""
         return byref(self.part), byref(self.serial)
 
     @property
     def is_done(self) -> bool:
-        """Whether the row is placed."""
+        """Whether the row is inserted."""
         return self.part.value != NOWHERE
 
     @property
@@ -65,19 +65,19 @@ class PlacedOne:
 
 
 class PlacedInTurn:
-    """Rows that are placed one after the other in these shards."""
+    """Rows that are inserted one after another into these shards."""
 
     def __init__(self, shards: Sequence[int]):
         self.each = [PlacedOne(it) for it in shards]
 
     def rows(self) -> RowNumbers:
-        """The numbers of the rows that are placed."""
+        """The numbers of the rows inserted so far."""
         found: RowNumbers = from_ints("Q", [it.row for it in self.each if it.is_done], "row numbers")
         return found
 
 
 class PlacedInShards:
-    """Rows that are placed by these shards, each of which has one call of the library for its own."""
+    """Rows for several shards, each of which inserts its rows by one call of the library."""
 
     def __init__(self, shards: Any):
         self.shards, self.blocks = shards, list(blocks_of(shards))
@@ -88,34 +88,34 @@ class PlacedInShards:
         return known_rows(self.blocks, answers, {}, len(self.shards))
 
     def rows(self) -> RowNumbers:
-        """The numbers of the rows that are placed."""
+        """The numbers of the rows inserted so far."""
         rows, is_done = self._known()
         found: RowNumbers = rows[is_done]
         return found
 
     def error(self, errors: dict[int, Any]) -> Any:
-        """The error of the call, of those of the shards."""
+        """The error of the whole call, chosen from those of the shards."""
         return error_of(errors, self.shards, self._known()[1])
 
 
 class Taken:
-    """The row that a call of the library deletes, if there is one."""
+    """The row that a call of the library deletes, if it exists."""
 
     def __init__(self) -> None:
         self.gone, self._key, self._payload = c_uint8(), c_uint64(), c_int64()
 
     def at(self) -> tuple[Any, Any, Any]:
-        """Where the library writes."""
+        """Pointers to what the library writes."""
         return byref(self.gone), byref(self._key), byref(self._payload)
 
     @property
     def row(self) -> Optional[tuple[int, int]]:
-        """The row's key and payload."""
+        """The row's key and payload, or None if no row was deleted."""
         return (self._key.value, self._payload.value) if self.gone.value else None
 
 
 def joined(parts: Any, serials: Any, rows: Any, count: int) -> Any:
-    """The row numbers of this many partitions and serials, in an array that is given: that takes hardly any memory."""
+    """Computes `count` row numbers from partitions and serials, in the array `rows`. Needs hardly any more memory."""
     if np is not None:
         found = rows[:count]
         found[:] = parts[:count]
@@ -129,23 +129,24 @@ def joined(parts: Any, serials: Any, rows: Any, count: int) -> Any:
 
 
 def rows_of(placed: Sequence[Any]) -> RowNumbers:
-    """The numbers of the rows of several calls."""
+    """The numbers of the rows that several calls inserted."""
     found: Any = [it.rows() for it in placed]
     rows: RowNumbers = found[0] if len(found) == 1 else joined_rows(found)
     return rows
 
 
 def joined_rows(found: Sequence[Any]) -> Any:
-    """One array of row numbers."""
+    """Concatenates arrays of row numbers."""
     if np is not None:
         return np.concatenate([np.empty(0, np.uint64), *found])
     return from_ints("Q", [it for each in found for it in plain(each)], "row numbers")
 
 
 def telling(method: Callable[Concatenate[Any, list[Any], Words], Answer]) -> Callable[Concatenate[Any, Words], Answer]:
-    """A method that inserts rows, of one that also gets a list, to which it adds where they are placed before they are.
+    """Decorates a method that inserts rows: an error that ends it gets the numbers of the inserted rows as `answers`.
 
-    An error that ends it has in `answers` the numbers of the rows that are placed.
+    The decorated method has a list as a further first parameter. Before it inserts rows, it adds to the list an object
+    of this module, which will know their numbers.
     """
 
     @functools.wraps(method)
@@ -160,10 +161,10 @@ def telling(method: Callable[Concatenate[Any, list[Any], Words], Answer]) -> Cal
                 told = error
                 raise
         except BaseException as error:
-            # (a signal may have come while a refusal was handled)
+            # a signal may have come while the first error was handled
             if error is not told:
                 error.answers = rows_of(placed)  # type: ignore[attr-defined]
-            # (else the error would refer to itself)
+            # without this the error's traceback would refer to the error itself
             told = None
             raise
 

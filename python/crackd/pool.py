@@ -1,4 +1,4 @@
-"""Jobs that run side by side, in a pool of threads that all tables of the process share."""
+"""Runs jobs in parallel, in a pool of threads that all tables of the process share."""
 
 from __future__ import annotations
 
@@ -11,19 +11,19 @@ from typing import Any, Callable, Mapping, Optional
 
 Jobs = Mapping[int, Callable[[], Any]]
 
-# the threads that are in `run_side_by_side`
+# the threads that are inside `run_side_by_side`
 _within: set[int] = set()
 
 
 def processors() -> int:
-    """How many processors this process may use."""
+    """The number of processors that this process may use."""
     return len(os.sched_getaffinity(0)) if hasattr(os, "sched_getaffinity") else os.cpu_count() or 1
 
 
 def run_in_turn(jobs: Jobs, answers: dict[int, Any], errors: dict[int, Any]) -> None:
-    """Runs each job in this thread. Adds its answer, or its error.
+    """Runs each job in this thread, and adds its answer or its error.
 
-    An error that ends a thread, such as a KeyboardInterrupt, ends this too, and is raised.
+    An error that isn't an `Exception`, such as KeyboardInterrupt, is also raised, and later jobs aren't run.
     """
     for number, job in jobs.items():
         _run(number, job, answers, errors)
@@ -39,11 +39,10 @@ def _run(number: int, job: Callable[[], Any], answers: dict[int, Any], errors: d
 
 
 def run_side_by_side(jobs: Jobs, answers: dict[int, Any], errors: dict[int, Any]) -> None:
-    """Runs jobs in this thread and in those of the pool. Adds their answers and errors, and returns once all have
-    ended.
+    """Runs jobs in this thread and in the pool's. Adds their answers and errors, and returns once all have ended.
 
-    What the handler of a signal raises meanwhile is raised once the jobs that have begun have ended; others don't
-    begin then. A call by the handler runs its jobs in turn.
+    If a signal handler raises an error meanwhile, no further job begins, and the error is raised once the jobs that
+    have begun have ended. If the handler itself calls this function, its jobs run one after another.
     """
     me = threading.get_ident()
     if me in _within:
@@ -66,10 +65,10 @@ def run_side_by_side(jobs: Jobs, answers: dict[int, Any], errors: dict[int, Any]
 
 
 class Helpers:
-    """Threads that help with jobs, as long as the process lives.
+    """The threads of the pool, which live as long as the process.
 
-    (Those of `concurrent.futures` are handed their work under locks that are written in Python, one of which stays
-    taken if a signal comes there: then no thread is ever handed anything again.)
+    `concurrent.futures` isn't used: it hands out work under locks that are written in Python. If a signal handler
+    raised an error there, such a lock would stay taken, and no thread would ever get work again.
     """
 
     def __init__(self) -> None:
@@ -77,7 +76,7 @@ class Helpers:
         self._works: queue.SimpleQueue[Work] = queue.SimpleQueue()
 
     def ask(self, work: Work, most: int) -> None:
-        """Has up to this many threads help. If none can be started, as while the interpreter ends, none helps."""
+        """Has up to `most` threads help with `work`: fewer if no more can be started, as while the interpreter ends."""
         with contextlib.suppress(RuntimeError):
             while self.count < min(most, processors()):
                 _thread.start_new_thread(self._serve, ())
@@ -94,19 +93,19 @@ _helpers = Helpers()
 
 
 class Work:
-    """The jobs of a call. Each thread takes the next one that none has begun.
+    """The jobs of a call. Each thread takes the next job that no thread has begun.
 
-    A signal may end the calling thread's part at any place, so nothing is counted there: it waits for the threads that
-    have put themselves down as helpers.
+    A signal may end the calling thread's part at any point, so that thread counts nothing. It waits for the threads
+    that have registered themselves as helpers.
     """
 
     def __init__(self, jobs: Jobs, answers: dict[int, Any], errors: dict[int, Any]):
-        # (a list is safe to share: `pop` and `clear` are each one step)
+        # threads may share a list, since `pop` and `clear` are atomic
         self._left = list(jobs.items())
         self._answers, self._errors = answers, errors
         self._helpers: set[int] = set()
         self._ended: queue.SimpleQueue[None] = queue.SimpleQueue()
-        # (what ended a helper)
+        # the error that ended a helper's part, or None
         self.fault: Optional[BaseException] = None
 
     def run(self) -> None:
@@ -119,7 +118,7 @@ class Work:
             _run(number, job, self._answers, self._errors)
 
     def help(self) -> None:
-        """Runs jobs in a thread of the pool. What would end the thread ends the call."""
+        """Runs jobs in a thread of the pool. An error that would end the thread is kept, and the call raises it."""
         me = threading.get_ident()
         self._helpers.add(me)
         try:
@@ -131,12 +130,12 @@ class Work:
             self._ended.put(None)
 
     def wait(self) -> None:
-        """Waits until no thread helps. One that comes later finds no job."""
+        """Waits until no thread helps. A thread that begins later finds no job."""
         while self._helpers:
             self._ended.get()
 
     def end(self) -> None:
-        """Lets no more jobs begin, and waits for those that have, whatever handlers of signals raise."""
+        """Lets no more jobs begin, and waits for those that have begun, whatever signal handlers raise."""
         while True:
             try:
                 self._left.clear()
@@ -147,7 +146,7 @@ class Work:
 
 
 def _forget() -> None:
-    """Leaves the parent's threads in a forked child, which has none of them."""
+    """Forgets the parent's threads in a forked child, where they don't exist."""
     global _helpers
     _helpers = Helpers()
     _within.clear()

@@ -1,4 +1,4 @@
-"""What each kind of table does, over keys that are numbers of 64 bits. The methods of tables are made of it."""
+"""The operations that each kind of table implements, over keys as 64-bit numbers. Public methods are built on them."""
 
 from __future__ import annotations
 
@@ -13,19 +13,19 @@ from .rows import Rows
 from .typed import Counts, RowNumbers
 
 Answer = TypeVar("Answer")
-# a method that asks more than once, or that makes something of an answer: it yields what primitives return, and gets
-# the answer
+# a method that makes several calls, or converts an answer, is written as a generator: it yields what a primitive
+# returns and receives the answer, so that the same code serves synchronous and asynchronous tables
 Steps = Generator[Any, Any, Answer]
 
 
 class Primitives(abc.ABC):
-    """A table's own calls. Ranges have a first and a last key."""
+    """The operations of a table. Their ranges are closed: from a first to a last key."""
 
     _keys: Keys
     _lock: Any
-    # (whether the rows are in this process, and can be counted without asking another one)
+    # whether the rows are in this process, so that counting them asks no other process
     _is_here = False
-    # (the ends of each partition's keys, by its number; they never change)
+    # the ends of each partition's keys, by partition number, once they are known; they never change
     _ends: Optional[dict[int, tuple[int, int]]] = None
 
     def __new__(cls, *_: Any, **__: Any) -> Any:
@@ -41,10 +41,10 @@ class Primitives(abc.ABC):
     @property
     @abc.abstractmethod
     def policy(self) -> str:
-        """How rows are merged."""
+        """How queries merge pending rows."""
 
     def _drive(self, steps: Steps[Answer]) -> Answer:
-        """What a method returns that is written as steps."""
+        """Runs the steps of a method and returns its result."""
         given: Any = None
         try:
             while True:
@@ -54,20 +54,20 @@ class Primitives(abc.ABC):
                     answer: Answer = done.value
                     return answer
         except BaseException:
-            # (a signal may have come between two steps, which hold locks)
+            # a signal may have come between two steps; closing them releases the locks that they hold
             steps.close()
             raise
 
     def _alone_steps(self, steps: Steps[Answer]) -> Steps[Answer]:
-        """Steps between which other threads are kept from the table, if it is in this process."""
+        """The same steps; a table in this process excludes other threads until the last one ends."""
         return steps
 
     def _leave(self) -> None:
-        """Lets go of the table in a forked child: each call that takes its lock raises `Forked`."""
+        """Gives up the table in a forked child: each call that takes its lock raises `Forked`."""
         self._lock = NoLock()
 
     def _nothing(self, answer: Answer) -> Answer:
-        """The answer to an empty range, if the table is open."""
+        """Returns the answer for an empty range. Raises an error if the table is closed."""
         self._check_open()
         return answer
 
@@ -84,15 +84,15 @@ class Primitives(abc.ABC):
 
     @abc.abstractmethod
     def select(self, low: Any = None, high: Any = None) -> Rows:
-        """The rows with keys in the range."""
+        """Returns the rows with keys in the range."""
 
     @abc.abstractmethod
     def _facts(self) -> Iterable[tuple[str, str]]:
-        """What there is to say of the table beside its rows and keys, with the names of these facts."""
+        """The facts that `repr` shows besides rows and keys, as pairs of a name and a text."""
 
     @abc.abstractmethod
     def _rows(self) -> int:
-        """How many rows there are. Merges nothing, so that it needs little memory."""
+        """The number of rows. Merges nothing, and so needs little memory."""
 
     @abc.abstractmethod
     def _check_open(self) -> None: ...

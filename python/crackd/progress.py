@@ -1,4 +1,4 @@
-"""How far a load is."""
+"""Reports the progress of a load."""
 
 from __future__ import annotations
 
@@ -10,14 +10,14 @@ from .arrays import from_ints, np, plain
 from .primitives import Steps
 from .typed import Progress, RowNumbers
 
-# how many rows are inserted between two reports, and for how long nothing is reported
+# how many rows are inserted between two reports; the seconds without a report at the beginning, and between two reports
 STEP = 250_000
 SECONDS_OF_SILENCE = 1.0
 SECONDS_BETWEEN = 0.2
 
 
 class Bar:
-    """Reports on a line of standard error, once a load takes longer than a second."""
+    """Reports on a line of standard error if a load takes longer than a second."""
 
     def __init__(self) -> None:
         self.began = self.told = time.monotonic()
@@ -34,7 +34,7 @@ class Bar:
 
 
 def reporter(progress: Progress) -> Optional[Callable[[int, int], object]]:
-    """The function that reports, or None."""
+    """The function that reports, or None for no reports."""
     if progress is None or progress is False:
         return None
     if progress is True:
@@ -45,12 +45,12 @@ def reporter(progress: Progress) -> Optional[Callable[[int, int], object]]:
 
 
 def pieces_of(rows: int) -> list[tuple[int, int]]:
-    """The first and the end of the rows between two reports."""
+    """The beginning and end of each range of rows between two reports."""
     return [(at, min(at + STEP, rows)) for at in range(0, rows, STEP)]
 
 
 def insert_steps(table: Any, keys: Any, payloads: Any, progress: Progress) -> Steps[RowNumbers]:
-    """What `insert_many` returns or raises; between some rows and the next it is reported how many are inserted."""
+    """Does what `insert_many` does, in several calls, with a report after each."""
     report = reporter(progress)
     rows: RowNumbers
     if report is None:
@@ -69,7 +69,7 @@ def insert_steps(table: Any, keys: Any, payloads: Any, progress: Progress) -> St
 
 
 def add_done(error: Any, found: list[Any]) -> None:
-    """Adds to an error of an insertion the rows that were placed before it."""
+    """Adds the rows of earlier calls to `done` and `answers` of an insertion's error."""
     answers = getattr(error, "answers", None)
     if hasattr(error, "done"):
         error.__init__(error.code, error.done + sum(map(len, found)), error.later)
@@ -77,7 +77,7 @@ def add_done(error: Any, found: list[Any]) -> None:
 
 
 def joined(found: list[Any]) -> Any:
-    """One array of row numbers."""
+    """Concatenates arrays of row numbers."""
     if np is not None:
         return np.concatenate([np.empty(0, np.uint64), *found])
     return from_ints("Q", [it for each in found for it in plain(each)], "row numbers")

@@ -1,4 +1,4 @@
-"""What tables are asked beside counts, sums and selects: means, histograms, single rows, moves, chunks, copies."""
+"""The further methods of tables: means, histograms, single rows, moves, chunks and copies."""
 
 from __future__ import annotations
 
@@ -18,10 +18,10 @@ from .typed import Counts, Progress, RowNumbers, Sums
 
 
 class Questions(Primitives):
-    """Methods of all tables."""
+    """Methods of all tables that are made of counts, sums, selects, inserts and deletes."""
 
     def mean(self, low: Any = None, high: Any = None) -> Optional[fractions.Fraction]:
-        """The exact mean of the payloads of the rows with keys in the range.
+        """Returns the exact mean of the payloads of the rows with keys in the range.
 
         Returns
         -------
@@ -30,7 +30,8 @@ class Questions(Primitives):
 
         Notes
         -----
-        A server and a cluster are asked twice: what other clients change in between may count for one of the two.
+        On a server or a cluster the sum and the count are two calls. Changes by other clients between them may be in
+        only one of the two.
         """
         return self._drive(self._mean_steps(low, high))
 
@@ -47,27 +48,27 @@ class Questions(Primitives):
         return total, (yield self._count(first, last))
 
     def count_by(self, edges: Sequence[Any]) -> Counts:
-        """A histogram: how many rows have keys from each edge up to but not including the next one.
+        """Returns a histogram: the number of rows with keys from each edge up to but not including the next.
 
         Parameters
         ----------
         edges : array_like
-            They don't fall. The first and the last may be None, which is no end.
+            In ascending order; neighbours may be equal. The first and the last may be None, which means no end.
 
         Returns
         -------
         array of int64
-            One count less than edges. Unlike in `numpy.histogram` the last range has no key equal to its high end.
+            One count fewer than edges. Unlike in `numpy.histogram`, the last range excludes its high end.
         """
         return self._count_many(*self._keys.ends_many(*neighbours(edges)))
 
     def sum_by(self, edges: Sequence[Any]) -> Sums:
-        """The exact sums of the payloads in the ranges of `count_by`.
+        """Returns the exact sums of the payloads in the ranges of `count_by`.
 
         Returns
         -------
         array of int64, or of objects
-            If a sum needs more than 64 bits, the items are objects of type int.
+            If a sum needs more than 64 bits, the items are Python ints.
         """
         return self._drive(self._sum_by_steps(edges))
 
@@ -76,10 +77,10 @@ class Questions(Primitives):
         return sums
 
     def delete_range(self, low: Any = None, high: Any = None) -> int:
-        """Deletes the rows with keys in the range. Returns how many these were.
+        """Deletes the rows with keys in the range. Returns how many were deleted.
 
-        Rows that other clients of a server or a cluster add meanwhile stay. If a deletion is refused, those before it
-        are done: `done` of the error says how many.
+        Rows that other clients of a server or a cluster insert meanwhile stay. If a deletion is refused, those before
+        it are done: `done` of the error says how many.
         """
         return self._drive(self._delete_range_steps(low, high))
 
@@ -96,12 +97,12 @@ class Questions(Primitives):
         return (yield self._delete_many(rows))
 
     def get(self, row: int) -> Optional[Row]:
-        """The key and payload of a row, or None if it doesn't exist. Reads all rows of its partition.
+        """Returns the key and payload of a row, or None if it doesn't exist. Reads all rows of its partition.
 
         Raises
         ------
         NoSuchPartition
-            If no row can have this number.
+            If the table has no such partition, so that no row can have this number.
         """
         return self._drive(self._get_steps(row))
 
@@ -112,7 +113,7 @@ class Questions(Primitives):
             raise refused(5)
         first, end = ends[number >> SHIFT]
         rows, keys, payloads = yield self._select(first, end - 1)
-        # (the rows of a partition are in the order of their numbers)
+        # the rows of a partition are ordered by their numbers
         at = place_of(number, rows)
         if at == len(rows) or int(rows[at]) != number:
             return None
@@ -127,19 +128,20 @@ class Questions(Primitives):
         return self._ends
 
     def move(self, row: int, key: Any) -> Optional[int]:
-        """Gives a row a new key, of any partition: deletes it, and inserts its payload with the new key.
+        """Gives a row a new key, in any partition: deletes the row, and inserts its payload with the new key.
 
         Returns
         -------
         int or None
-            The new number, or None if the row doesn't exist.
+            The row's new number, or None if the row doesn't exist.
 
         Notes
         -----
-        If the insertion is refused, the row is put back under its old key. `answers` of the error has its number, which
-        is a new one; it is empty if that was refused too. In both cases `row` of the error has the row. A table in this
-        process does the same if a signal ends the call, unless the row has its new key. If a connection is lost in
-        between, the row may be gone, or have its new key.
+        If the insertion is refused, the row is inserted again with its old key. `answers` of the error then has the
+        row's number, which is a new one, or is empty if that insertion was refused too. In both cases `row` of the
+        error has the old key and the payload. A table in this process does the same if a signal ends the call before
+        the row has its new key. If a connection is lost between the two steps, the row may be gone, or may have its
+        new key.
         """
         return self._drive(self._move_steps(row, key))
 
@@ -155,14 +157,14 @@ class Questions(Primitives):
             raise
 
     def _insert_one(self, key: int, payload: int) -> Any:
-        """Inserts a row as `insert_many` does, whose errors tell whether it was placed."""
+        """Inserts a row by `_insert_many`, since `answers` of its errors shows whether the row was inserted."""
         return self._insert_many(from_ints("Q", [key], "keys"), from_ints("q", [payload], "payloads"))
 
     def _put_back_steps(self, error: Any, taken: tuple[int, int]) -> Steps[None]:
-        """Inserts a row that was taken, if the error of its insertion says that it wasn't placed."""
+        """Inserts a deleted row again with its old key, if `error` shows that it wasn't inserted with its new one."""
         error.row = Row(self._keys.back_one(taken[0]), taken[1])
         placed = getattr(error, "answers", None)
-        # (over a connection that is lost, or for a task that is cancelled, nobody knows)
+        # after a lost connection or a cancelled task it isn't known whether the row was inserted
         if placed is None or len(placed) or not isinstance(error, Refused):
             return
         with contextlib.suppress(Error):
@@ -171,8 +173,8 @@ class Questions(Primitives):
     def select_chunks(self, low: Any = None, high: Any = None, size: int = CHUNK) -> Iterator[Rows]:
         """Yields the rows of `select` in the same order, at most `size` at a time.
 
-        Each partition is read when its rows are due, so only its rows are in memory, and what changes meanwhile may or
-        may not be among them.
+        A partition is read only when its first chunk is needed. So only one partition's rows are in memory at a time,
+        and the chunks may or may not contain changes that are made during the iteration.
         """
         first, end = self._keys.ends(low, high)
         checked_size(size)
@@ -181,7 +183,7 @@ class Questions(Primitives):
         return self._chunks(self._drive(self._parts_steps(first, end)), size)
 
     def _parts_steps(self, first: int, end: int) -> Steps[list[tuple[int, int]]]:
-        """The first and the last key in a range of each partition that has some."""
+        """For each partition that meets a range, its first and last key in the range."""
         ends = yield from self._ends_steps()
         meets = [(max(low, first), min(high, end) - 1) for _, (low, high) in sorted(ends.items())]
         return [it for it in meets if it[0] <= it[1]]
@@ -194,50 +196,50 @@ class Questions(Primitives):
     def insert_frame(
         self, frame: Any, key: Any = None, payload: Any = None, *, progress: Progress = None
     ) -> RowNumbers:
-        """Inserts the rows of a DataFrame or Series of pandas, or of Arrow's data such as a table of polars.
+        """Inserts the rows of a pandas DataFrame or Series, or of Arrow data such as a polars DataFrame.
 
         Parameters
         ----------
         frame : object
             A DataFrame, a Series, or an object with the method `__arrow_c_stream__`.
         key, payload : label, optional
-            The columns: for pandas by name, for Arrow by name or number. Without `key` the keys are pandas's index, or
-            Arrow's first column. Without `payload` payloads are the values of a Series, or else 0, 1, 2 ..
+            The columns: for pandas by name, for Arrow by name or number. Without `key` the keys are the pandas index,
+            or the first Arrow column. Without `payload` the payloads are the values of a Series, or else 0, 1, 2 ..
         progress : bool or callable, optional
-            Whether to report how far it is: on standard error, or by calls with the numbers of rows done and of all.
+            True reports progress on standard error. A function is called with the number of rows inserted so far and
+            the number of all rows.
 
         Returns
         -------
         array of uint64
-            The numbers of the rows.
+            The numbers of the rows, in the order of the frame.
 
         Raises
         ------
         ValueError
-            If an item is missing. The error names the first; nothing is inserted.
+            If a value is missing. The message names the first one. Nothing is inserted.
         """
         return self.insert_rows(*columns_of(frame, key, payload), progress=progress)
 
     def insert_rows(self, keys: Any, payloads: Any, *, progress: Progress = None) -> RowNumbers:
-        """`insert_many` that reports how far it is: on standard error, or by calls with the numbers of rows done and of
-        all."""
+        """Does what `insert_many` does, and reports progress: see `insert_frame`."""
         return self._drive(insert_steps(self, keys, payloads, progress))
 
     def rebalanced(self, into: Any = None, **options: Any) -> Rebalanced:
-        """Copies the rows to a table whose splits divide the present keys evenly.
+        """Copies the rows to a new table whose splits divide the present keys evenly.
 
         Parameters
         ----------
         into : table, optional
-            Another table, for example on a new server. By default it is a new one: on the cluster if this one is there,
-            else in this process.
+            The table to copy to, for example on a new server. The default is a new table: on the cluster if this table
+            is there, else in this process.
         **options
-            Those of a new table. It has by default this one's policy.
+            Parameters of the new table. Its default policy is this table's.
 
         Returns
         -------
         Rebalanced
-            The table, and the old and the new numbers of the rows. This table stays open, and as it is.
+            The new table, and the old and new numbers of the rows. This table stays open and unchanged.
         """
         if into is not None and options:
             raise TypeError(f"options are for a new table: {', '.join(options)}")
@@ -260,20 +262,21 @@ class Questions(Primitives):
         return rows
 
     def _anew(self, keys: Any, rows: int, options: dict[str, Any]) -> Any:
-        """An empty table for about these rows."""
+        """Creates an empty table for about `rows` rows with keys like these."""
         from .table import Table
 
         return Table(keys, rows, **options)
 
     def save(self, path: Any) -> int:
-        """Writes the rows to a file that `numpy.load` and `Table.load` read, and replaces it only once all is written.
+        """Writes the rows to a file that `numpy.load` and `Table.load` read.
 
-        The file has an array with the fields `key` and `payload`. Row numbers aren't kept. It needs numpy.
+        The file holds an array with the fields `key` and `payload`, without row numbers. An existing file is replaced
+        only after everything is written. This needs numpy.
 
         Returns
         -------
         int
-            How many rows these were.
+            The number of rows written.
         """
         return self._drive(self._save_steps(path))
 
@@ -288,7 +291,7 @@ class Questions(Primitives):
 
 
 def neighbours(edges: Any) -> tuple[Any, Any]:
-    """The low and the high ends of the ranges between edges."""
+    """The low and the high ends of the ranges between neighbouring edges."""
     given = items_of(edges, "edges")
     if len(given) < 2:
         raise ValueError(f"ranges need at least two edges, not {len(given)}")
@@ -298,7 +301,7 @@ def neighbours(edges: Any) -> tuple[Any, Any]:
 
 
 def sums_array(sums: list[int]) -> Any:
-    """Sums as an array of int64 if they fit, else of objects; without numpy as they are."""
+    """Sums as an array of int64 if they fit, else of objects. Without numpy returns the list itself."""
     if np is None:
         return sums
     fits = all(-SIGN <= it < SIGN for it in sums)
@@ -306,7 +309,7 @@ def sums_array(sums: list[int]) -> Any:
 
 
 def place_of(number: int, rows: Any) -> int:
-    """The place of the first of rising row numbers that isn't below a number."""
+    """The place of the first of these ascending row numbers that isn't below `number`."""
     if np is not None:
         return int(np.searchsorted(rows, np.uint64(number)))
     return bisect.bisect_left(rows, number)

@@ -1,11 +1,12 @@
-"""A table on a server: what it asks, apart from how this is sent."""
+"""A table on a server: what `Client` and `AsyncTable` share, apart from how statements are sent."""
 
 from __future__ import annotations
 
 import abc
-from typing import Any, Iterator
+from typing import Any, Iterator, Optional
 
 from . import wire
+from .arrays import whole
 from .base import AnyTable
 
 
@@ -17,19 +18,23 @@ class RemoteTable(AnyTable):
 
     @abc.abstractmethod
     def _say(self, steps: wire.Exchanges) -> Any:
-        """What a conversation returns."""
+        """Runs a conversation and returns its result."""
 
     @property
     def policy(self) -> str:
-        """How rows are merged."""
+        """How queries merge pending rows."""
         return self._policy
 
     def ping(self) -> Any:
-        """Asks the server for a sign of life. Raises `Disconnected` if there is none."""
+        """Checks that the server answers. Raises `Disconnected` if it doesn't."""
         return self._say(wire.ping())
 
+    def stats(self, part: Optional[int] = None) -> Any:
+        """Returns numbers of the table and its server, or of a partition, by name."""
+        return self._say(wire.stats(part if part is None else whole(part, "a partition")))
+
     def _begin(self) -> Any:
-        """The first statements of a connection. Raises `Disconnected` if they aren't answered."""
+        """Sends the first statements of a connection. Raises `Disconnected` if they aren't answered."""
         return self._say(wire.begin(self._policy))
 
     def _facts(self) -> Iterator[tuple[str, str]]:

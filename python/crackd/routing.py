@@ -1,53 +1,59 @@
-"""Which shard has which keys and rows, and what a table makes of the answers of several.
+"""Finds the shards of keys and rows, and combines the answers of several shards.
 
-It needs numpy, except for a table with one shard.
+This needs numpy, except for a table with one shard.
 """
 
 from __future__ import annotations
 
 import abc
 import dataclasses
-from typing import Any, Iterator, NamedTuple, Optional, Sequence
+from typing import Any, Callable, Iterator, NamedTuple, Optional, Sequence
 
 from .arrays import TOP, np
 from .base import MOST_PARTS, SHIFT, AnyTable
 from .errors import BadSplits, Error, Refused, ShardLost, refused
 from .layout import PartLayout
 
-# a row's number is its shard, its partition there in the 6 bits below, and its serial
+# a row number is a shard, a partition of that shard in the 6 bits below, and a serial in the lower 48 bits
 SHARD_SHIFT = SHIFT + 6
 MOST_SHARDS = 1 << (16 - 6)
 IN_SHARD = (1 << SHARD_SHIFT) - 1
-# up to this many shards, keys are compared with each split, and rows are looked up shard by shard
-FEW_SHARDS = 16
+# With fewer than `FEW_SHARDS` splits, comparing each key with each split is faster than a binary search. If the keys
+# fit into a processor's cache, that holds for fewer than `FEW_PARTS` splits. With up to `FEW_SHARDS` shards, rows are
+# looked up shard by shard.
+FEW_SHARDS, FEW_PARTS = 16, 64
 
 
 class Block(NamedTuple):
-    """Rows of one shard: their places among all given rows, in order."""
+    """The rows of one shard: their places among all given rows, in ascending order."""
 
     shard: int
     places: Any
 
 
 class Cut(NamedTuple):
-    """What a shard is asked: words, or the items of arrays at these places, and further words."""
+    """The arguments of a call to a shard: `columns`, or else their items at `places` and the `further` arguments.
+
+    In this process the thread that gets the answer also calls `heed` with it, if that is given.
+    """
 
     columns: tuple[Any, ...]
     places: Any = None
     further: tuple[Any, ...] = ()
+    heed: Optional[Callable[[Any], object]] = None
 
     @property
     def items(self) -> int:
-        """How many items a call for many has here."""
+        """The number of items of a call for many."""
         return len(self.columns[0] if self.places is None else self.places)
 
     def words(self) -> tuple[Any, ...]:
         return self.columns if self.places is None else (*(it[self.places] for it in self.columns), *self.further)
 
 
-def shard_of(cuts: Any, keys: Any) -> Any:
-    """The shard, or the partition, of each key."""
-    if len(cuts) >= FEW_SHARDS:
+def shard_of(cuts: Any, keys: Any, few: int = FEW_SHARDS) -> Any:
+    """The shard, or the partition, of each key. With fewer than `few` splits it compares each key with each split."""
+    if len(cuts) >= few:
         return np.searchsorted(cuts, keys, side="right")
     found = np.zeros(len(keys), np.uint8)
     for cut in cuts:
@@ -56,13 +62,13 @@ def shard_of(cuts: Any, keys: Any) -> Any:
 
 
 def blocks_of(shards: Any) -> Iterator[Block]:
-    """The rows of each shard, of the shards of all rows."""
+    """Yields the rows of each shard that has some. `shards` has the shard of each row."""
     most = int(shards.max()) + 1 if len(shards) else 0
     if most <= FEW_SHARDS:
         found = (Block(shard, np.flatnonzero(shards == shard)) for shard in range(most))
         yield from (it for it in found if len(it.places))
         return
-    # (numbers of 16 bits are sorted by radix, in linear time)
+    # numpy sorts numbers of 16 bits by radix, in linear time
     order = np.argsort(shards.astype(np.uint16), kind="stable")
     counts = np.bincount(shards)
     ends = np.cumsum(counts)
@@ -71,30 +77,30 @@ def blocks_of(shards: Any) -> Iterator[Block]:
 
 
 class Sharded(AnyTable):
-    """A table whose rows are in shards, each of which has a range of the keys.
+    """A table whose rows are divided among `shards` shards, each of which has a range of the keys.
 
-    Calls over several shards don't see one moment. `shards` is how many there are.
+    A call over several shards doesn't read them at the same moment.
     """
 
     shards: int
-    # where the keys of each shard but the first begin
+    # the first key of each shard except the first one
     _shard_cuts: Any
-    # how many partitions each shard has, and then 0, for those that don't exist
+    # the number of partitions of each shard, and then 0, which stands for shards that don't exist
     _parts: Any
 
     @abc.abstractmethod
     def _gather(self, cuts: dict[int, Cut], name: str, answers: dict[int, Any], errors: dict[int, Error]) -> None:
-        """Asks shards. Adds what comes to the answers and errors, until all of it has come."""
+        """Calls the method `name` of shards. Adds their answers and errors as they come, and returns once all have."""
 
     def _ask(self, cuts: dict[int, Cut], name: str) -> tuple[dict[int, Any], dict[int, Error]]:
-        """Asks shards. Returns the answers, and the errors of those that have none."""
+        """Calls the method `name` of shards. Returns their answers, and the errors of shards without an answer."""
         answers: dict[int, Any] = {}
         errors: dict[int, Error] = {}
         self._gather(cuts, name, answers, errors)
         return answers, errors
 
     def _all(self, cuts: dict[int, Cut], name: str) -> dict[int, Any]:
-        """The answers of shards, by their order; an error where one has none, a lost one first."""
+        """The answers of shards, in their order. Raises an error if one has no answer, that of a lost shard first."""
         answers, errors = self._ask(cuts, name)
         raise_first(errors)
         return dict(sorted(answers.items()))
@@ -103,18 +109,20 @@ class Sharded(AnyTable):
         return {it: Cut(words) for it in range(self.shards)}
 
     def _ends_of(self, shard: int) -> tuple[int, int]:
-        """The numbers of a shard's keys, from the first up to but not including the second."""
+        """The half-open range of a shard's keys, as numbers: the first, and one past the last."""
         low = int(self._shard_cuts[shard - 1]) if shard else 0
         return low, int(self._shard_cuts[shard]) if shard < self.shards - 1 else TOP
 
     def _met(self, first: int, last: int) -> range:
-        """The shards that have keys of a range."""
+        """The shards whose keys meet a range."""
         ends = np.searchsorted(self._shard_cuts, np.array([first, last], np.uint64), side="right").tolist()
         return range(ends[0], ends[1] + 1)
 
     def _asked(self, first: int, last: int) -> list[tuple[int, int, int]]:
-        """The shards that have keys of a range, each with the range that it is asked for: without an end that is in
-        another shard, so that no piece begins there."""
+        """The shards whose keys meet a range, each with the range to ask it for.
+
+        An end that is in another shard is left out, so that the shard's column isn't cracked there.
+        """
         met = self._met(first, last)
         return [(it, first if it == met[0] else 0, last if it == met[-1] else TOP - 1) for it in met]
 
@@ -130,7 +138,7 @@ class Sharded(AnyTable):
             if not errors:
                 return placed_rows(blocks, answers, len(keys))
         except BaseException as error:
-            # (the handler of a signal may raise anything)
+            # a signal handler may raise anything
             rows, is_done = known_rows(blocks, answers, errors, len(keys))
             error.answers = rows[is_done]  # type: ignore[attr-defined]
             raise
@@ -138,8 +146,7 @@ class Sharded(AnyTable):
         raise error_of(errors, shards, is_done, rows[is_done])
 
     def _faults(self, rows: Any, keys: Any = None) -> Any:
-        """The code of the refusal of each row, or 0: its partition doesn't exist, or its new key is of another
-        shard."""
+        """For each row 5 if its partition doesn't exist, 4 if its new key belongs to another shard, or else 0."""
         shards = rows >> np.uint64(SHARD_SHIFT)
         parts = rows >> np.uint64(SHIFT) & np.uint64(MOST_PARTS - 1)
         is_nowhere = parts >= self._parts[np.minimum(shards, np.uint64(self.shards)).astype(np.int64)]
@@ -147,7 +154,7 @@ class Sharded(AnyTable):
         return np.where(is_nowhere, 5, np.where(is_elsewhere, 4, 0))
 
     def _flags(self, name: str, rows: Any, *columns: Any) -> Any:
-        """The flag of each row, of a call for many. No row after one that is refused for its number or key is sent."""
+        """The flag of each row of a call for many. Rows after the first that `_faults` refuses aren't sent."""
         faults = self._faults(rows, *columns[:1])
         end = int(np.argmax(faults != 0)) if faults.any() else len(rows)
         found = self._flags_of(name, rows[:end], *(it[:end] for it in columns))
@@ -194,7 +201,7 @@ class Sharded(AnyTable):
         return sum(self._all(cuts, "sum").values())
 
     def _ranges(self, firsts: Any, lasts: Any) -> Iterator[tuple[int, Any, Cut]]:
-        """Which ranges, by their places, each shard has keys of, and how it is asked for them."""
+        """Yields each shard that some ranges meet, the places of these ranges, and the arguments to ask it with."""
         begins, ends = shard_of(self._shard_cuts, firsts), shard_of(self._shard_cuts, lasts)
         is_whole = firsts <= lasts
         for shard in range(self.shards):
@@ -251,7 +258,7 @@ class Sharded(AnyTable):
                 yield self._placed(shard, part)
 
     def _placed(self, shard: int, part: PartLayout) -> PartLayout:
-        """A partition's layout in the whole table: its number there, and no keys but those of its shard."""
+        """A shard's partition as one of the whole table: with its number there, and cut to the keys of the shard."""
         low, high = self._ends_of(shard)
         pieces = [it for it in part.pieces if low < it.high and it.low < high]
         pieces[0] = dataclasses.replace(pieces[0], low=max(low, pieces[0].low))
@@ -261,7 +268,7 @@ class Sharded(AnyTable):
 
 
 def checked_splits(cuts: Any, most: int = MOST_SHARDS) -> Any:
-    """Splits that rise, and that cut into no more than so many parts."""
+    """Returns splits, if they are in ascending order, above 0, and make at most `most` parts. Else raises an error."""
     if len(cuts) >= most:
         raise ValueError(f"there can be {most - 1} splits, not {len(cuts)}")
     if np.any(cuts[1:] <= cuts[:-1]) or np.any(cuts == 0):
@@ -270,17 +277,22 @@ def checked_splits(cuts: Any, most: int = MOST_SHARDS) -> Any:
 
 
 def placed_rows(blocks: Sequence[Block], answers: dict[int, Any], count: int) -> Any:
-    """The numbers of the rows that shards placed, by the places of these among all that were given."""
+    """The numbers of the rows that shards inserted, in the order in which the rows were given."""
     rows = np.empty(count, np.uint64)
     for shard, places in blocks:
-        rows[places] = answers[shard] | np.uint64(shard << SHARD_SHIFT)
+        put_rows(rows, shard, places, answers[shard])
     return rows
+
+
+def put_rows(rows: Any, shard: int, places: Any, placed: Any) -> None:
+    """Writes the numbers of the rows that a shard inserted to their places in `rows`."""
+    rows[places] = placed | np.uint64(shard << SHARD_SHIFT)
 
 
 def known_rows(
     blocks: Sequence[Block], answers: dict[int, Any], errors: dict[int, Error], count: int
 ) -> tuple[Any, Any]:
-    """The same of those that are known to be placed, and which of the places have one."""
+    """The numbers of the rows that are known to be inserted, at their places, and which places have one."""
     rows, is_done = np.zeros(count, np.uint64), np.zeros(count, bool)
     for shard, places in blocks:
         placed = answers.get(shard, getattr(errors.get(shard), "answers", None))
@@ -291,10 +303,11 @@ def known_rows(
 
 
 def error_of(errors: dict[int, Any], shards: Any, is_done: Any, answers: Any = None) -> Any:
-    """The error of a call for many: of a lost shard, or else of the first row that wasn't done. One that isn't this
-    package's, as the handler of a signal may raise, comes before the latter.
+    """The error of a call for many items.
 
-    A refusal says how many were done before that row, and how many after it, in other shards.
+    It is that of the first lost shard, or else one that isn't this package's (a signal handler may raise any), or else
+    that of the first item that wasn't done. A refusal says how many items were done before that item, and how many
+    after it in other shards.
     """
     lost = [errors[it] for it in sorted(errors) if isinstance(errors[it], ShardLost)]
     if lost:
@@ -308,7 +321,7 @@ def error_of(errors: dict[int, Any], shards: Any, is_done: Any, answers: Any = N
 
 
 def raise_first(errors: dict[int, Any]) -> None:
-    """Raises the error of the first lost shard, or else the one of the first item."""
+    """Raises the error of the first lost shard, or else that of the first item that wasn't done, if there is one."""
     if errors:
         order = {it: (not isinstance(error, ShardLost), getattr(error, "done", 0), it) for it, error in errors.items()}
         error = errors[min(errors, key=lambda it: order[it])]

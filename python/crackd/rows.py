@@ -1,4 +1,4 @@
-"""What calls return of rows."""
+"""The types in which calls return rows, and conversions of payloads and row numbers."""
 
 from __future__ import annotations
 
@@ -12,39 +12,39 @@ if TYPE_CHECKING:
 
     from .base import AnyTable
 
-# a row's number is its partition and its serial, which has this many bits
+# a row number is a partition and, in the lower `SHIFT` bits, a serial
 SHIFT = 48
 SERIAL = (1 << SHIFT) - 1
-# how many rows a chunk has by default
+# the default number of rows of a chunk
 CHUNK = 65_536
 
 
 class Row(NamedTuple):
-    """What `get` returns: a row's key and payload."""
+    """The key and payload of a row, as `get` returns them."""
 
     key: OneKey
     payload: int
 
 
 class Rows(NamedTuple):
-    """What `select` returns: three arrays of equal length, ordered by partition and then by age."""
+    """Rows as `select` returns them: three arrays of equal length, ordered by row number."""
 
     rows: RowNumbers
     keys: KeyArray
     payloads: Payloads
 
     def chunks(self, size: int = CHUNK) -> Iterator[Rows]:
-        """Yields these rows in their order, `size` at a time; the arrays are views of these."""
+        """Yields the rows in order, at most `size` at a time. The arrays are views of these arrays."""
         for at in range(0, len(self.rows), checked_size(size)):
             yield Rows(self.rows[at : at + size], self.keys[at : at + size], self.payloads[at : at + size])
 
     def to_pandas(self) -> pandas.DataFrame:
-        """A DataFrame with the columns `key` and `payload`, and the row numbers as its index, `row`.
+        """Returns a DataFrame with the columns `key` and `payload`. Its index, `row`, has the row numbers.
 
         Raises
         ------
         ValueError
-            If a key is a date that pandas doesn't have.
+            If pandas can't represent a date exactly.
         """
         import pandas
 
@@ -53,14 +53,14 @@ class Rows(NamedTuple):
 
 
 class Rebalanced(NamedTuple):
-    """What `rebalanced` returns: a new table, and the numbers that its rows had, which rise, and have there."""
+    """The new table that `rebalanced` returns, the old row numbers in ascending order, and the new ones beside them."""
 
     table: AnyTable
     old: RowNumbers
     new: RowNumbers
 
     def new_of(self, rows: Any) -> RowNumbers:
-        """The new numbers of rows that had these numbers. One that no row had raises a KeyError."""
+        """The new numbers of the rows with these old numbers. Raises KeyError if no row had one of them."""
         found = ints("Q", rows, "row numbers")
         numbers: RowNumbers
         if np is None:
@@ -77,7 +77,7 @@ class Rebalanced(NamedTuple):
 
 
 def row_text(row: int) -> str:
-    """A row number as servers write it: the partition, a dot, and the serial there."""
+    """A row number as a server writes it: the partition, a dot, and the serial in that partition."""
     return f"{int(row) >> SHIFT}.{int(row) & SERIAL}"
 
 
@@ -98,14 +98,14 @@ def row_of(row: Any) -> int:
 
 
 def checked_size(size: int) -> int:
-    """How many rows a chunk has, at least 1."""
+    """The number of rows of a chunk. Raises ValueError if it is below 1."""
     if whole(size, "a chunk's size") < 1:
         raise ValueError(f"a chunk has at least 1 row, not {size}")
     return size
 
 
 def dates_of_pandas(keys: Any) -> Any:
-    """Keys as pandas has them. It has only some units of dates; those that it rounds or wraps are an error."""
+    """Keys as pandas represents them. Raises ValueError if a date isn't exact in the units that pandas has."""
     if keys.dtype.kind != "M":
         return keys
     import pandas
@@ -113,11 +113,11 @@ def dates_of_pandas(keys: Any) -> Any:
     try:
         found = pandas.Series(keys)
     except (TypeError, ValueError, AssertionError) as error:
-        # (pandas 1.5 asserts that it hasn't a unit of several nanoseconds)
+        # pandas 1.5 raises AssertionError for a unit of several nanoseconds
         raise ValueError(f"pandas has no dates of {keys.dtype} that are exact here") from error
     back = found.to_numpy()
-    # (numpy compares dates of any two units exactly, unless one is far from 1970: then it wraps)
+    # numpy compares dates of different units exactly, except that a date far from 1970 may overflow and change its sign
     if not (back.astype(keys.dtype) == keys).all() or (np.sign(back.view("i8")) != np.sign(keys.view("i8"))).any():
         raise ValueError(f"pandas has no dates of {keys.dtype} that are exact here")
-    # (a series would be aligned with the index)
+    # `DataFrame` would align a Series with its index by label
     return found.array

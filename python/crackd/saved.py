@@ -1,4 +1,4 @@
-"""Files of rows, as arrays of numpy with the fields `key` and `payload`."""
+"""Files of rows: numpy arrays with the fields `key` and `payload`."""
 
 from __future__ import annotations
 
@@ -12,42 +12,42 @@ from .arrays import np
 from .errors import Error
 from .keys import Keys
 
-# how many bytes there are before the rows, whatever their type and number
+# the bytes before the rows, of which there are always this many
 HEAD = 192
 
 
 class BadSave(Error, ValueError):
-    """What is read isn't what was saved."""
+    """A file isn't one that `save` writes, or its rows aren't those that were saved."""
 
 
 def row_dtype(kind: Keys) -> Any:
-    """The type of the rows in a file."""
+    """The numpy type of the rows in a file."""
     return np.dtype([("key", kind.name), ("payload", "int64")])
 
 
 def head_of(dtype: Any, rows: int) -> bytes:
-    """The first bytes of a file with this many rows, by the format 1.0 of numpy."""
+    """The first bytes of a file with this many rows, in version 1.0 of numpy's file format."""
     said = repr({"descr": dtype.descr, "fortran_order": False, "shape": (rows,)}).encode("ascii")
     magic = b"\x93NUMPY\x01\x00" + struct.pack("<H", HEAD - 10)
     return magic + said.ljust(HEAD - len(magic) - 1) + b"\n"
 
 
 class Writing:
-    """A file of rows that is being written. `rows` is how many it has."""
+    """A file of rows that is being written. `rows` is the number of rows so far."""
 
     def __init__(self, file: Any, kind: Keys):
         self._file, self._kind, self.rows = file, kind, 0
         file.write(head_of(row_dtype(kind), 0))
 
     def add(self, keys: Any, payloads: Any) -> None:
-        """Writes some rows; the keys are numbers."""
+        """Writes some rows. `keys` are the numbers of the keys."""
         block = np.empty(len(keys), row_dtype(self._kind))
         block["key"], block["payload"] = self._kind.back(keys), payloads
         self._file.write(block.tobytes())
         self.rows += len(keys)
 
     def end(self) -> None:
-        """Writes how many rows there are, which wasn't known before, and has all written to the disk."""
+        """Writes the number of rows, which is known only now, into the head, and flushes the file to disk."""
         self._file.seek(0)
         self._file.write(head_of(row_dtype(self._kind), self.rows))
         self._file.flush()
@@ -56,7 +56,7 @@ class Writing:
 
 @contextlib.contextmanager
 def writing(path: Any, kind: Keys) -> Iterator[Writing]:
-    """A file of rows to write, which replaces another once the block ends; until then the other stays as it is."""
+    """A context that writes a file of rows. An existing file is replaced only at the end of the block."""
     if np is None:
         raise ImportError("files of rows need numpy: pip install numpy")
     path = pathlib.Path(path)
@@ -73,7 +73,7 @@ def writing(path: Any, kind: Keys) -> Iterator[Writing]:
 
 
 def read_rows(path: Any) -> tuple[Keys, Any]:
-    """The rows of a file, which are read as they are used, and the kind of their keys."""
+    """The type of the keys in a file, and its rows, which are mapped into memory and read as they are used."""
     if np is None:
         raise ImportError("files of rows need numpy: pip install numpy")
     try:

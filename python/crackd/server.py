@@ -1,4 +1,4 @@
-"""A server that is a child of this process."""
+"""Servers that are child processes of this one, and the search for the program crackd."""
 
 from __future__ import annotations
 
@@ -20,19 +20,21 @@ from .keys import Keys, kind_of, quantiles
 
 TRIES = 5
 SECONDS_OF_AN_END = 10
-# where `make run` and `make program-unproved` build the program, in a checkout of the repository whose python/ this
-# package is
+# the programs that `make run` and `make program-unproved` build, if this package is the one in a checkout's python/
 BUILT = pathlib.Path(__file__).resolve().parent.parent.parent / "crates" / "crackd" / "out" / "crackd"
 UNPROVED = BUILT.with_name("crackd-unproved")
 
 
 class NoServer(Error):
-    """A server can't be started."""
+    """A server couldn't be started."""
 
 
 def find_program(path: Optional[str] = None) -> str:
-    """The path of the program: the given one, that of the variable CRACKD, the one built in this checkout, the one on
-    PATH, or else the unproved one of this checkout, which a line on standard error reports."""
+    """Finds the program crackd and returns its path. Raises `NoServer` if there is none.
+
+    It is `path` if that is given, or else that of the environment variable CRACKD, the program built in this checkout,
+    the program on PATH, or the unproved program of this checkout. A line on standard error reports the use of the last.
+    """
     found = path or os.environ.get("CRACKD") or (str(BUILT) if BUILT.exists() else program_of_path())
     if found is None and UNPROVED.exists():
         _report_unproved()
@@ -48,7 +50,7 @@ def find_program(path: Optional[str] = None) -> str:
 
 
 def program_of_path() -> Optional[str]:
-    """The program on PATH. The command that this package installs has its name, but is a script."""
+    """The program crackd on PATH. Skips scripts: this package installs one of the same name."""
     for folder in os.get_exec_path():
         found = shutil.which("crackd", path=folder)
         if found is not None and not is_script(found):
@@ -57,12 +59,12 @@ def program_of_path() -> Optional[str]:
 
 
 def called() -> str:
-    """How this package's command was called."""
+    """The command by which this package was started, for its help."""
     return "crackd" if os.path.basename(sys.argv[0]) == "crackd" else "python3 -m crackd"
 
 
 def is_script(path: str) -> bool:
-    """Whether a file begins as scripts do."""
+    """Whether a file begins with #!, as scripts do."""
     try:
         with open(path, "rb") as file:
             return file.read(2) == b"#!"
@@ -72,7 +74,7 @@ def is_script(path: str) -> bool:
 
 @functools.cache
 def _report_unproved() -> None:
-    """Says once that the program that is used isn't proved."""
+    """Reports once that the program in use isn't proved."""
     print(f"crackd: using {UNPROVED}, which isn't proved", file=sys.stderr)
 
 
@@ -83,13 +85,13 @@ def free_port() -> int:
 
 
 def output_of(process: subprocess.Popen[AnyStr]) -> IO[AnyStr]:
-    """What a process writes, which was begun with a pipe for it."""
+    """The standard output of a process that was started with a pipe for it."""
     assert process.stdout is not None
     return process.stdout
 
 
 class Server:
-    """A server that `serve` started on 127.0.0.1, at port `port`."""
+    """A server that `serve` started. It listens on 127.0.0.1, port `port`."""
 
     def __init__(self, command: Sequence[str], keys: Keys, policy: str):
         self._keys, self._policy, self._parent = keys, policy, os.getpid()
@@ -99,16 +101,16 @@ class Server:
             if output_of(self._process).readline() == f"listening {self.port}\n".encode("ascii"):
                 return
             complaint = self._complaint()
-            # (another program may have taken the port in the meantime)
+            # another program may have taken the port meanwhile: try another one
             if "refused 17" not in complaint:
                 self._complain(complaint)
         raise NoServer("no port was free")
 
     def _start(self, command: Sequence[str]) -> None:
         words = [command[0], "serve", "--port", str(self.port), *command[1:]]
-        # (a server that writes much would wait for a pipe)
+        # a file, since a server that writes much would block on a full pipe
         self._errors = tempfile.TemporaryFile()
-        # (the server ends with its input, so it does when this process is killed)
+        # the server ends when its input ends, so it also ends if this process is killed
         pipe = subprocess.PIPE
         try:
             self._process = subprocess.Popen(
@@ -119,7 +121,7 @@ class Server:
             raise NoServer(f"{command[0]}: {error.strerror}") from error
 
     def _complaint(self) -> str:
-        """What the program wrote to standard error, after it has ended."""
+        """Waits until the program has ended. Returns what it wrote to standard error."""
         self._process.communicate()
         self._errors.seek(0)
         with self._errors:
@@ -132,9 +134,9 @@ class Server:
         raise NoServer(complaint or f"the program ended with status {self._process.returncode}")
 
     def connect(self, **options: Any) -> Client:
-        """A new connection to the table, as `crackd.connect` makes it.
+        """Makes a new connection to the table, with the options of `crackd.connect`.
 
-        A server serves up to 10,000 at a time.
+        A server serves up to 10,000 connections at a time.
         """
         given: dict[str, Any] = {"key_type": self._keys, "policy": self._policy, **options}
         return connect("127.0.0.1", self.port, **given)
@@ -175,9 +177,11 @@ def splits_of(
     shards: Optional[int] = None,
     by_default: int = 1,
 ) -> list[int]:
-    """Where a table's keys are divided, as numbers: at these splits, or else at quantiles of a sample, so that
-    partitions get about equally many of the rows. A shard has up to 64 of them; there are these shards, or so many by
-    default."""
+    """The splits of a table, as numbers.
+
+    They are `splits`, or else quantiles of `sample`, so that partitions get about equally many rows. `shards` is the
+    number of shards, and `by_default` their number if it is None. A shard has up to 64 partitions.
+    """
     most = MOST_PARTS * (shards or 1)
     if partitions is not None and not 1 <= whole(partitions, "partitions") <= most:
         raise ValueError(f"partitions must be 1 to {most}, not {partitions}")
@@ -207,22 +211,24 @@ def serve(
     cells: Optional[int] = None,
     program: Optional[str] = None,
 ) -> Server:
-    """Starts `crackd serve` as a child of this process, with an empty table. It ends with the block of a `with`.
+    """Starts `crackd serve` with an empty table, as a child of this process.
+
+    `close`, or the end of a `with` statement, ends the server.
 
     Parameters
     ----------
     sample : array_like, optional
-        Keys that look like those of the table, which have its type.
+        Keys distributed like those that the table will hold. Its quantiles divide the keys into partitions.
     rows : int, optional
-        About how many rows it will have; by default the length of the sample.
+        About how many rows the table will hold. The default is the length of `sample`.
     key_type, partitions, splits, policy
         Those of `Table`.
     workers : int, optional
-        How many threads serve its connections, 1 to 64.
+        The number of threads that serve connections, 1 to 64.
     history, cells : int, optional
-        The limits of each partition, which empties its history when that is full.
+        The greatest number of entries in a partition's history, and of rows in a partition. A full history is emptied.
     program : str, optional
-        The path of crackd.
+        The path of the program crackd.
 
     Returns
     -------
@@ -231,7 +237,7 @@ def serve(
     Raises
     ------
     NoServer
-        If the program isn't found, or can't be started.
+        If the program isn't found or can't be started.
     """
     if policy not in POLICIES:
         raise ValueError(f"policy must be one of {', '.join(POLICIES)}, not {policy}")

@@ -1,4 +1,4 @@
-"""What runs on the workers of a cluster: the shards of a table, and the tasks that load rows into them.
+"""The code that runs on the workers of a cluster: the shards of a table, and the tasks that load rows into them.
 
 Keys are numbers here, as `crackd.keys` makes them.
 """
@@ -27,24 +27,24 @@ try:
 except ImportError as error:
     raise ImportError(MISSING) from error
 
-# how many keys of a block are drawn as a sample
+# about how many keys of a block are used as a sample
 SAMPLED = 10_000
 SECONDS_OF_A_LOOK = 1
-# (Python 3.10 has two of them)
+# two different types in Python 3.10
 TIMEOUTS = (TimeoutError, asyncio.TimeoutError)
 
 
 class ShardFailed(Error):
-    """A shard couldn't do what it was asked, for another reason than a refusal: a full disk, for example.
+    """A call to a shard failed for another reason than a refusal, for example a full disk.
 
-    After an `insert_many`, `answers` has the numbers of the rows that were placed in other shards.
+    After an `insert_many`, `answers` has the numbers of the rows that were inserted into other shards.
     """
 
     answers: Any = None
 
 
 class LoadFailed(Error):
-    """A task that loads rows can't reach a shard."""
+    """A task that loads rows couldn't reach a shard."""
 
     def __init__(self, shard: int, why: str):
         super().__init__(f"shard {shard} can't be reached: {why}")
@@ -55,7 +55,10 @@ class LoadFailed(Error):
 
 
 class Shard:
-    """One shard, an actor on its worker. Each answer comes with the token of the shard that gives it."""
+    """A shard: an actor on its worker.
+
+    Each answer comes with the shard's random token, by which a client notices that a worker was restarted.
+    """
 
     def __init__(self, kind: Keys, cuts: Sequence[int], options: dict[str, Any]):
         self.token = uuid.uuid4().hex
@@ -64,8 +67,8 @@ class Shard:
         self.loaded: set[int] = set()
 
     def ask(self, name: str, words: tuple[Any, ...]) -> tuple[str, Any]:
-        """The answer of a method of this shard, or else of its rows."""
-        # (an array that came over the network may lie at any address)
+        """Calls a method of this shard, or else of its rows. Returns the token and the answer."""
+        # an array that came over the network may not be aligned
         words = tuple(np.require(it, requirements="CA") if isinstance(it, np.ndarray) else it for it in words)
         try:
             return self.token, getattr(self if name in ("begin", "load", "save") else self.rows, name)(*words)
@@ -75,11 +78,11 @@ class Shard:
             raise ShardFailed(f"{type(error).__name__}: {error}") from error
 
     def begin(self) -> int:
-        """How many partitions the shard has."""
+        """The number of partitions of the shard."""
         return self.rows.partitions
 
     def load(self, token: str, number: int, keys: Any, payloads: Any) -> None:
-        """Places the rows of a block, once: Dask runs a task again when it loses the worker that ran it."""
+        """Inserts the rows of block `number`, but only once: Dask repeats a task if it loses the worker that ran it."""
         if token != self.token:
             raise ShardFailed("its worker was restarted")
         if number not in self.loaded:
@@ -87,7 +90,7 @@ class Shard:
             self.loaded.add(number)
 
     def save(self, path: str) -> tuple[int, int]:
-        """Writes all rows to a file, partition by partition. Returns their count, and the sum of their payloads."""
+        """Writes all rows to a file, partition by partition. Returns their number and the sum of their payloads."""
         part = pathlib.Path(path + ".part")
         try:
             saved = self._write(part)
@@ -116,12 +119,12 @@ class Shard:
 
 
 def exact_sum(payloads: Any) -> int:
-    """The sum of payloads, whatever its size, by halves that fit into 64 bits."""
+    """The exact sum of payloads. The sums of their upper and lower 32 bits each fit into 64 bits."""
     return (int((payloads >> 32).sum()) << 32) + int((payloads & 0xFFFFFFFF).sum())
 
 
 def waited(future: Any, is_there: Callable[[], bool]) -> Any:
-    """An actor's answer, waited for as long as the actor is there: Dask itself may wait forever."""
+    """Waits for an actor's answer. Raises ConnectionError once `is_there` returns False; Dask might wait forever."""
     while not future.done():
         try:
             return future.result(timeout=SECONDS_OF_A_LOOK)
@@ -132,7 +135,7 @@ def waited(future: Any, is_there: Callable[[], bool]) -> Any:
 
 
 def has_actor(client: Any, address: str, key: str) -> bool:
-    """Whether a worker has an actor, as the scheduler knows."""
+    """Whether a worker has an actor, according to the scheduler."""
     return key in client.has_what([address]).get(address, ())
 
 
@@ -148,12 +151,12 @@ class Place(NamedTuple):
 
 
 def is_there(place: Place) -> bool:
-    """Whether a shard is where it was started, for a task."""
+    """Whether a shard is still on the worker where it was started. For use in tasks."""
     return has_actor(get_client(), place.address, place.key)
 
 
 def load_rows(number: int, keys: Any, payloads: Any, places: Sequence[Place], cuts: Any) -> int:
-    """Sends the rows of block `number` from this worker to their shards. Returns how many they are."""
+    """Sends the rows of block `number` from this worker to their shards. Returns their number."""
     worker = get_worker()
     waiting = []
     for shard, rows in blocks_of(shard_of(cuts, keys)):
@@ -172,12 +175,12 @@ def load_rows(number: int, keys: Any, payloads: Any, places: Sequence[Place], cu
 
 
 def sample_of(keys: Any) -> tuple[int, Any]:
-    """How many keys there are, and some of them."""
+    """The number of keys, and about `SAMPLED` of them."""
     return len(keys), keys[:: max(1, len(keys) // SAMPLED)]
 
 
 def rows_of_file(path: str, count: int, kind: Keys) -> Any:
-    """The rows of a file that was saved, if it is whole. They are read as they are used."""
+    """The rows of a saved file, which are mapped into memory. Raises `BadSave` if the file isn't complete."""
     try:
         rows = np.load(path, mmap_mode="r")
     except (OSError, ValueError, EOFError) as error:
@@ -202,13 +205,13 @@ def load_file(
     places: Sequence[Place],
     cuts: Any,
 ) -> int:
-    """Loads some rows of a file, as block `number`."""
+    """Loads the rows from `begin` to `end` of a file, as block `number`."""
     rows = rows_of_file(path, count, kind)[begin:end]
     return load_rows(number, kind.many(rows["key"]), np.array(rows["payload"]), places, cuts)
 
 
 def column_of(block: Any, column: Any) -> Any:
-    """A column of a block of a dataframe or of an array."""
+    """A column of a block of a Dask dataframe or array."""
     if hasattr(block, "columns"):
         return block[column]
     return np.asarray(block)[:, column] if np.ndim(block) == 2 else block
@@ -229,7 +232,7 @@ def load_block(
     places: Sequence[Place],
     cuts: Any,
 ) -> int:
-    """Loads block `number` of a Dask collection. Without a column of payloads these are numbered from `begin`."""
+    """Loads block `number` of a Dask collection. Without a payload column the payloads count up from `begin`."""
     keys = kind.many(column_of(block, key))
     if len(keys) != count:
         raise ShardFailed(f"block {number} had {count} rows when its keys were sampled, and has {len(keys)} now")

@@ -17,24 +17,25 @@ from .placed import Placed, PlacedInShards, PlacedInTurn, Taken, rows_of, tellin
 from .pool import processors, run_in_turn, run_side_by_side
 from .primitives import Answer, Steps
 from .progress import pieces_of, reporter
-from .routing import IN_SHARD, MOST_SHARDS, SHARD_SHIFT, Cut, Sharded, checked_splits, placed_rows, shard_of
+from .routing import IN_SHARD, MOST_SHARDS, SHARD_SHIFT, Cut, Sharded, checked_splits, put_rows, shard_of
 from .rows import Row, row_of
 from .server import splits_of
 from .typed import Progress, RowNumbers, Self
 
-# a table has by default a shard for this many rows, and no more than these or than processors
+# by default a table has one shard per `ROWS_A_SHARD` rows, at most `MOST_BY_DEFAULT` and at most one per processor
 ROWS_A_SHARD = 50_000
 MOST_BY_DEFAULT = 16
-# how many keys of an array are drawn as a sample
+# about how many keys of an array are used as a sample
 SAMPLED = 10_000
-# how many items a call for many has if its shards answer side by side, and how many rows a table has for other calls
+# shards answer in parallel if a call has at least this many items, or if the shards of a call named in `LONG_BY_ROWS`
+# have at least `MANY_ROWS` rows
 LONG = {"place_many": 2000, "load_many": 2000, "delete_many": 2000, "update_many": 2000, "count_many": 200}
 LONG["sum_many"] = 200
 LONG_BY_ROWS = ("select", "settle", "checkpoint", "layouts")
 MANY_ROWS = 20_000
-# up to so many items are cheaper one by one than cut by shard
+# up to this many items are handled one by one, which is cheaper than grouping them by shard
 FEW_ITEMS = 32
-# what a table with one shard has that shard do
+# methods that a table with one shard takes over from that shard
 ALONE = ["insert", "delete", "update", "count", "sum", "select", "settle", "checkpoint", "rows", "check_open"]
 ALONE += ["delete_many", "update_many", "count_many", "sum_many"]
 
@@ -42,10 +43,19 @@ ALONE += ["delete_many", "update_many", "count_many", "sum_many"]
 class Table(TableHere, Sharded):
     """A table in this process.
 
-    Its histories are emptied as they fill. Calls run without the interpreter's lock, so other threads go on meanwhile.
-    It has `shards`, each of which has a range of the keys and answers one call at a time; those that a call for many
-    meets answer side by side. `partitions` is how many partitions they have. `row_numbers` of a table that was made of
-    arrays, a frame or a file has the numbers of its rows, in their order there.
+    A full history is emptied automatically. Calls that may take long release the interpreter's lock, so that other
+    threads keep running.
+
+    Attributes
+    ----------
+    shards : int
+        The number of shards. Each holds a range of the keys and answers one call at a time. Calls for many items, and
+        others that take long, run on several shards in parallel.
+    partitions : int
+        The number of partitions of all shards.
+    row_numbers : array of uint64
+        The numbers of the rows that the table was made from (arrays, a frame or a file), in the order given. An empty
+        table that was made by `Table(..)` doesn't have this attribute.
     """
 
     row_numbers: RowNumbers
@@ -63,31 +73,31 @@ class Table(TableHere, Sharded):
         history: int = HISTORY,
         cells: int = MOST_CELLS,
     ):
-        """An empty table.
+        """Creates an empty table.
 
         Parameters
         ----------
         sample : array_like, optional
-            Keys that look like those of the table, which have their type.
+            Keys distributed like those that the table will hold. Its quantiles divide the keys into partitions.
         rows : int, optional
-            About how many rows it will have; by default the length of the sample.
+            About how many rows the table will hold. The default is the length of `sample`.
         key_type : str or type, optional
-            The type of the keys: that of the sample, or else by default "int64"; "uint64", "float64",
-            "datetime64[s]" ..
+            The type of the keys: "int64", "uint64", "float64", "datetime64[s]" .. The default is the type of `sample`,
+            or "int64" without a sample.
         shards : int, optional
-            In how many shards the partitions are: by default one for each 50,000 rows, at most one for each processor,
-            and 16. There are never more than partitions.
+            The number of shards, 1 to 1024. The default is one for each 50,000 rows, at most one for each processor and
+            at most 16; without numpy it is 1. There are never more shards than partitions.
         partitions : int, optional
-            How many there are, 1 to 64 for each shard: by default one for each 4,096 rows, between quantiles of the
-            sample. Without a sample there is one.
+            The number of partitions: 1 to 64, or up to 64 times `shards` if that is given. The default is one for each
+            4,096 rows and at most 64 in each shard. Without a sample or splits there is one partition.
         splits : array_like, optional
-            Where the keys are divided, in place of a sample.
+            The keys at which new partitions begin, in ascending order. Replaces the quantiles of `sample`.
         policy : str, optional
-            How rows are merged: "auto", "complete", "gradual" or "ripple".
+            How queries merge pending rows: "auto", "complete", "gradual" or "ripple".
         history : int, optional
-            After how many commands a partition's history is emptied.
+            The number of commands after which a partition's history is emptied.
         cells : int, optional
-            How many rows a partition may have.
+            The greatest number of rows in a partition.
         """
         if policy not in POLICIES:
             raise ValueError(f"policy must be one of {', '.join(POLICIES)}, not {policy}")
@@ -101,7 +111,7 @@ class Table(TableHere, Sharded):
 
     @staticmethod
     def _shards_for(rows: int, shards: Optional[int], is_divided: bool) -> int:
-        """How many shards a table for these rows has, if it has as many partitions."""
+        """The number of shards of a table for `rows` rows, if there are at least as many partitions."""
         if shards is None:
             return 1 if np is None else max(1, min(rows // ROWS_A_SHARD, processors(), MOST_BY_DEFAULT))
         if not 1 <= whole(shards, "shards") <= MOST_SHARDS:
@@ -113,11 +123,11 @@ class Table(TableHere, Sharded):
         return shards
 
     def _open(self, cuts: list[int], shards: int, options: dict[str, Any]) -> None:
-        """Opens shards, which have about equally many of the partitions between these splits."""
+        """Opens the shards, and divides the partitions between the splits `cuts` among them about evenly."""
         if shards > 1:
             checked_splits(np.array(cuts, np.uint64), MOST_PARTS * MOST_SHARDS)
         self.shards, self.partitions = shards, len(cuts) + 1
-        # (the first partition of each shard, and the end of the last)
+        # the first partition of each shard, and the end of the last
         begins = [self.partitions * it // shards for it in range(shards + 1)]
         self._starts = [cuts[it - 1] for it in begins[1:-1]]
         self._shards: list[LocalShard] = []
@@ -128,7 +138,7 @@ class Table(TableHere, Sharded):
             self.close()
             raise
         if shards == 1:
-            # (nothing is routed)
+            # calls go straight to the only shard
             vars(self).update((f"_{name}", getattr(self._shards[0], name)) for name in ALONE)
         else:
             self._shard_cuts = np.array(self._starts, np.uint64)
@@ -136,25 +146,26 @@ class Table(TableHere, Sharded):
 
     @classmethod
     def from_arrays(cls, keys: Any, payloads: Any = None, *, progress: Progress = None, **options: Any) -> Self:
-        """A table of these rows, all merged.
+        """Creates a table of these rows and merges them all.
 
         Parameters
         ----------
         keys : array_like
         payloads : array_like, optional
-            By default 0, 1, 2 ..
+            The default is 0, 1, 2 ..
         progress : bool or callable, optional
-            Whether to report how far it is: on standard error, or by calls with the numbers of rows done and of all.
+            True reports progress on standard error. A function is called with the number of rows inserted so far and
+            the number of all rows.
         **options
-            Those of `Table`.
+            Parameters of `Table`.
 
         Returns
         -------
         Table
-            `row_numbers` has the numbers of the rows, in the order of the arrays.
+            Its `row_numbers` are the numbers of the rows, in the order of the arrays.
         """
         keys = items_of(keys, "keys")
-        # (of a long array only those keys are mapped here that are looked at)
+        # `Table` maps each key of a sample to a number, so it gets only some keys of a long array
         sample = keys[:: max(1, len(keys) // SAMPLED)] if np is not None and isinstance(keys, np.ndarray) else keys
         table = cls(sample, len(keys), **options)
         if payloads is None:
@@ -169,7 +180,7 @@ class Table(TableHere, Sharded):
 
     @property
     def policy(self) -> str:
-        """How rows are merged."""
+        """How queries merge pending rows."""
         return self._policy
 
     # Inserting rows
@@ -188,7 +199,7 @@ class Table(TableHere, Sharded):
 
     @telling
     def _load_rows(self, placed: list[Any], keys: Any, payloads: Any, progress: Progress) -> RowNumbers:
-        """Inserts rows into a new table, which is closed if this raises an error."""
+        """Inserts rows into a new table. The caller closes the table if this raises an error."""
         return self._place_rows(placed, keys, payloads, progress, "load_many")
 
     def _place_rows(self, placed: list[Any], keys: Any, payloads: Any, progress: Progress, how: str) -> RowNumbers:
@@ -204,22 +215,26 @@ class Table(TableHere, Sharded):
         return rows_of(placed)
 
     def _place(self, placed: list[Any], keys: Any, payloads: Any, how: str = "place_many") -> RowNumbers:
-        """Inserts rows, by this method of shards. Returns their numbers. Before any is placed, it is added to the list
-        where they will be."""
+        """Inserts rows by the method `how` of the shards. Returns their numbers.
+
+        Before any row is inserted, an object that will know the numbers of the inserted rows is added to `placed`.
+        """
         if self.shards == 1:
             placed.append(Placed(len(keys)))
-            rows: RowNumbers = getattr(self._shards[0], how)(keys, payloads, placed[-1])
-            return rows
+            alone: RowNumbers = getattr(self._shards[0], how)(keys, payloads, placed[-1])
+            return alone
         if len(keys) <= FEW_ITEMS:
             return self._place_in_turn(placed, keys, payloads)
-        found = PlacedInShards(shard_of(self._shard_cuts, keys))
+        found, rows = PlacedInShards(shard_of(self._shard_cuts, keys)), np.empty(len(keys), np.uint64)
         placed.append(found)
-        cuts = {it: Cut((keys, payloads), places, (found.each[it],)) for it, places in found.blocks}
-        answers, errors = self._ask(cuts, how)
+        cuts = {}
+        for it, places in found.blocks:
+            cuts[it] = Cut((keys, payloads), places, (found.each[it],), partial(put_rows, rows, it, places))
+        _, errors = self._ask(cuts, how)
         if errors:
             raise found.error(errors)
-        rows = placed_rows(found.blocks, answers, len(keys))
-        return rows
+        numbers: RowNumbers = rows
+        return numbers
 
     def _place_in_turn(self, placed: list[Any], keys: Any, payloads: Any) -> RowNumbers:
         keys, payloads = keys.tolist(), payloads.tolist()
@@ -251,10 +266,10 @@ class Table(TableHere, Sharded):
                     told = error
                     raise
             except BaseException as error:
-                # (a signal may have come while the row was put back)
+                # a signal may have interrupted `_put_back`
                 if error is not told:
                     self._put_back(placed, taken, error)
-                # (else the error would refer to itself)
+                # without this the error's traceback would refer to the error itself
                 told = None
                 raise
 
@@ -266,7 +281,7 @@ class Table(TableHere, Sharded):
         return it.row
 
     def _put_back(self, placed: list[Any], taken: Taken, error: Any) -> None:
-        """Inserts a row that was taken, if it isn't placed. The error gets it."""
+        """Inserts the deleted row `taken` again, unless it has its new key already, and sets `row` of the error."""
         if taken.row is None:
             return
         key, payload = taken.row
@@ -280,7 +295,7 @@ class Table(TableHere, Sharded):
     # Asking shards
 
     def _alone_steps(self, steps: Steps[Answer]) -> Steps[Answer]:
-        # (the shards then answer this thread alone, in turn)
+        # while the steps run, the shards answer only this thread
         return holding([it.alone() for it in self._shards], steps)
 
     def _check_open(self) -> None:
@@ -293,21 +308,22 @@ class Table(TableHere, Sharded):
         if not cuts:
             self._check_open()
         jobs = {it: partial(_answer, self._shards[it], name, cut) for it, cut in cuts.items()}
-        # (a shard whose call a handler of a signal interrupts answers that thread alone)
+        # a signal handler may have interrupted a call of this thread, which holds the shard's lock; no other thread can
+        # then ask that shard
         is_short = len(jobs) < 2 or not self._is_long(name, cuts) or any(self._shards[it].is_asking for it in cuts)
         (run_in_turn if is_short else run_side_by_side)(jobs, answers, errors)
 
     def _is_long(self, name: str, cuts: dict[int, Cut]) -> bool:
-        """Whether a call takes long enough for several threads."""
+        """Whether a call takes long enough to be worth several threads."""
         if name == "select" and len(cuts) == 2:
-            # (no shard is met as a whole, so there may be few rows)
+            # the range need not cover either shard, so it may have few rows
             return sum(self._shards[it].count(*cut.columns) for it, cut in cuts.items()) >= MANY_ROWS
         if name in LONG_BY_ROWS:
             return sum(self._shards[it].held for it in cuts) >= MANY_ROWS
         return sum(cut.items for cut in cuts.values()) >= LONG[name] if name in LONG else False
 
     def _ends_of(self, shard: int) -> tuple[int, int]:
-        # (integers of Python, also without numpy)
+        # these are ints of Python, and need no numpy
         ends = [0, *self._starts, 1 << 64]
         return ends[shard], ends[shard + 1]
 
@@ -315,7 +331,7 @@ class Table(TableHere, Sharded):
         return range(bisect_right(self._starts, first), bisect_right(self._starts, last) + 1)
 
     def _with_row(self, row: int) -> LocalShard:
-        """The shard of a row number."""
+        """The shard that a row number belongs to."""
         if row >> SHARD_SHIFT < self.shards:
             return self._shards[row >> SHARD_SHIFT]
         self._check_open()
@@ -368,7 +384,10 @@ class Table(TableHere, Sharded):
         return self._each([], self._sum, firsts, lasts) if few else super()._sum_many(firsts, lasts)
 
     def _each(self, answers: list[Any], call: Callable[..., Any], *columns: Any) -> list[Any]:
-        """Adds the answer of a call for each item of these arrays. A refusal says how many there are."""
+        """Makes a call for each item of these arrays, and adds the answers to a list. Returns the list.
+
+        `done` of a refusal is the number of answers before it.
+        """
         if not len(columns[0]):
             self._check_open()
         for words in zip(*(it.tolist() for it in columns)):
@@ -379,7 +398,7 @@ class Table(TableHere, Sharded):
         return answers
 
     def close(self) -> None:
-        """Frees all that the table took. A second call does nothing."""
+        """Frees all memory of the table. A second call does nothing."""
         for it in self._shards:
             it.close()
 
@@ -389,14 +408,18 @@ for _name in ("insert_many", "insert_rows", "move"):
 
 
 def holding(locks: Sequence[Any], steps: Steps[Answer]) -> Steps[Answer]:
-    """Steps during which locks are held, which may be taken again by the same thread."""
+    """Runs steps while these locks are held. The locks are reentrant."""
     if not locks:
         return (yield from steps)
-    # (a statement `with` lets go of locks of C whenever a signal comes, but not of a context that is written in Python)
+    # a `with` statement releases a lock that is written in C whenever a signal comes; a context manager that is written
+    # in Python might be interrupted before it releases the lock
     one, two, three, four = [*locks[:4], *[locks[0]] * 3][:4]
     with one, two, three, four:
         return (yield from holding(locks[4:], steps))
 
 
 def _answer(shard: LocalShard, name: str, cut: Cut) -> Any:
-    return getattr(shard, name)(*cut.words())
+    answer = getattr(shard, name)(*cut.words())
+    if cut.heed is not None:
+        cut.heed(answer)
+    return answer

@@ -1,4 +1,4 @@
-"""Names of the types that calls return, for programs that check types; without numpy arrays are those of `array`."""
+"""Names for the types that calls return, for type checkers. Without numpy, arrays are those of the module `array`."""
 
 from __future__ import annotations
 
@@ -15,12 +15,12 @@ if TYPE_CHECKING:
     Payloads = npt.NDArray[np.int64]
     Counts = npt.NDArray[np.int64]
     Flags = npt.NDArray[np.bool_]
-    # (of int64, or of objects where a sum needs more)
+    # of int64, or of objects if a sum needs more bits
     Sums = npt.NDArray[np.generic]
 else:
     RowNumbers = OneKey = KeyArray = Payloads = Counts = Flags = Sums = Self = Any
 
-# whether to report how far a load is: on standard error, or to a function that gets how many rows are done, of how many
+# True reports a load's progress on standard error; a function gets the numbers of rows inserted so far and of all rows
 Progress = Union[bool, Callable[[int, int], object], None]
 
 __all__ = ["Counts", "Flags", "KeyArray", "OneKey", "Payloads", "Progress", "RowNumbers", "Self", "Sums"]

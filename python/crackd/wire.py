@@ -1,8 +1,8 @@
-"""What is said to a server and what its replies mean, apart from how they are sent.
+"""The statements sent to a server and the meaning of its replies, apart from how they are sent.
 
-Most functions are generators: each yields statements with the number of lines of their replies, and gets these lines.
-The last one may announce more, which then come with it. What interrupts a connection is raised where a generator waits;
-`given` of such an error has the whole lines that had come.
+Most functions are generators. Each yields statements with the number of lines of their replies, and receives these
+lines. If the last line announces more lines, they are received with it. If the connection fails, the error is raised at
+the `yield`. Its `given` has the whole lines that had come.
 """
 
 from __future__ import annotations
@@ -18,27 +18,27 @@ from .rows import SERIAL, SHIFT
 
 FULL = b"refused 6 "
 CHECKPOINTS = b"".join(b"checkpoint %d\n" % it for it in range(MOST_PARTS))
-# how many statements are sent before their replies are read
+# the greatest number of statements that are sent before their replies are read
 STATEMENTS_AT_ONCE = 100_000
 
 Exchanges = Generator[tuple[bytes, int], bytes, Any]
 
 
 def row_numbers(parts: Any, serials: Any) -> Any:
-    """Row numbers of partitions and serials."""
+    """The row numbers made of these partitions and serials."""
     if np is not None:
         return parts << np.uint64(SHIFT) | serials
     return from_ints("Q", [part << SHIFT | serial for part, serial in zip(parts, serials)], "row numbers")
 
 
 def listed(said: bytes) -> int:
-    """How many more lines the last of these lines announces."""
+    """The number of further lines that the last of these lines announces."""
     head = said[said.rfind(b"\n", 0, -1) + 1 :]
-    return int(head.split()[-1]) if head.startswith((b"rows ", b"layout ")) else 0
+    return int(head.split()[-1]) if head.startswith((b"rows ", b"layout ", b"stats ")) else 0
 
 
 def check(said: bytes, before: int = 0) -> None:
-    """Raises an error if a reply is a refusal: `done` also counts the `before` earlier items."""
+    """Raises an error if a reply is a refusal. Its `done` includes the `before` items of earlier blocks."""
     if b"refused" not in said:
         return
     lines = said.splitlines()
@@ -48,7 +48,7 @@ def check(said: bytes, before: int = 0) -> None:
 
 
 def placed(said: bytes) -> Any:
-    """The row numbers of the replies to inserts."""
+    """The row numbers in the replies to inserts."""
     told = parsed("Q", said.replace(b"row ", b"").replace(b".", b" "))
     return row_numbers(told[::2], told[1::2])
 
@@ -59,7 +59,7 @@ def numbers_of(rows: Any) -> tuple[list[int], list[int]]:
 
 
 def asked(form: str, *columns: Any, heard: Optional[list[bytes]] = None) -> Exchanges:
-    """The replies to a statement for each row of the columns. They are also added to the list `heard` as they come."""
+    """Sends a statement for each row of the columns. Returns the replies, and adds them to `heard` as they come."""
     heard = [] if heard is None else heard
     for at in range(0, len(columns[0]), STATEMENTS_AT_ONCE):
         yield from asked_some(form, [it[at : at + STATEMENTS_AT_ONCE] for it in columns], heard)
@@ -68,8 +68,10 @@ def asked(form: str, *columns: Any, heard: Optional[list[bytes]] = None) -> Exch
 
 
 def asked_some(form: str, columns: list[Any], heard: list[bytes]) -> Exchanges:
-    """Adds the replies to a statement for each row of the columns to a list. When a history is full, a checkpoint is
-    made, and refused statements are sent again."""
+    """Sends a statement for each row of the columns, and adds the replies to `heard`.
+
+    If a history is full, makes checkpoints and sends the refused statements again.
+    """
     try:
         heard.append((yield joined_text(form, *columns), len(columns[0])))
         if FULL in heard[-1]:
@@ -80,7 +82,7 @@ def asked_some(form: str, columns: list[Any], heard: list[bytes]) -> Exchanges:
 
 
 def again(form: str, columns: list[Any], said: bytes) -> Exchanges:
-    """Sends again what full histories refused, as long as checkpoints make room."""
+    """Sends again the statements that full histories refused, as long as checkpoints make room. Returns all replies."""
     lines, code = said.splitlines(keepends=True), 0
     full = [at for at, line in enumerate(lines) if line.startswith(FULL)]
     while full:
@@ -96,23 +98,25 @@ def again(form: str, columns: list[Any], said: bytes) -> Exchanges:
 
 
 def after_checkpoints(text: bytes, lines: int) -> Exchanges:
-    """Sends statements right after a checkpoint of each partition, so that no other call comes between. Returns the
-    number of the refusal of a checkpoint, or 0, and the replies to the statements."""
+    """Sends statements directly after a checkpoint of each partition, so that no other call comes between.
+
+    Returns the number of a checkpoint's refusal, or 0, and the replies to the statements.
+    """
     said = yield CHECKPOINTS + text, MOST_PARTS + lines
     replies = said.split(b"\n", MOST_PARTS)
     return folded(replies[:-1])[1], replies[-1]
 
 
 def folded(lines: list[bytes]) -> tuple[int, int]:
-    """How many entries the histories had, by the replies to checkpoints, and the number of a refusal, or 0."""
+    """The number of entries that checkpoints removed, by their replies, and the number of a refusal, or 0."""
     said = [line.split() for line in lines]
-    # (there may be fewer partitions)
+    # 5 means that there are fewer partitions
     codes = [int(words[1]) for words in said if words[0] == b"refused" and words[1] != b"5"]
     return sum(int(words[1]) for words in said if words[0] == b"folded"), codes[0] if codes else 0
 
 
 def answered(text: bytes, lines: int) -> Exchanges:
-    """The replies to statements, which are sent again once if a history is full. A refusal is raised."""
+    """Sends statements, once more if a history is full. Returns their replies, or raises a refusal."""
     said = yield text, lines
     if FULL in said:
         code, said = yield from after_checkpoints(text, lines)
@@ -125,14 +129,14 @@ def answered(text: bytes, lines: int) -> Exchanges:
 
 
 def begin(policy: str) -> Exchanges:
-    """Asks a new connection for a sign of life, and says how rows are merged."""
-    # (a server that has no room for a client refuses its first statement, and is gone)
+    """Checks that the server answers a new connection, and sets the policy of its session."""
+    # a server with too many clients refuses the first statement and closes the connection
     check((yield b"ping\n", 1))
     check((yield b"policy %b\n" % policy.encode("ascii"), 1))
 
 
 def ping() -> Exchanges:
-    """Asks for a sign of life."""
+    """Checks that the server answers."""
     check((yield b"ping\n", 1))
 
 
@@ -142,19 +146,19 @@ def insert(key: int, payload: int) -> Exchanges:
 
 
 def insert_many(keys: Any, payloads: Any) -> Exchanges:
-    """The numbers of the rows. An error that ends it has in `answers` those of the rows that are known to be placed."""
+    """Inserts rows. Returns their numbers. An error has as `answers` those of the rows known to be inserted."""
     heard: list[bytes] = []
     try:
         return placed((yield from asked("insert %d %d\n", keys, payloads, heard=heard)))
     except BaseException as error:
-        # (the handler of a signal may raise anything)
+        # a signal handler may raise anything
         lines = b"".join(heard).splitlines(keepends=True)
         error.answers = placed(b"".join(it for it in lines if it.startswith(b"row ")))  # type: ignore[attr-defined]
         raise
 
 
 def take(row: int) -> Exchanges:
-    """The key and payload of a row that is deleted, or None."""
+    """Deletes a row. Returns its key and payload, or None if it didn't exist."""
     words = (yield from asked("delete %d.%d\n", *numbers_of([row]))).split()
     return (int(words[1]), int(words[2])) if words[0] == b"gone" else None
 
@@ -211,6 +215,14 @@ def checkpoint() -> Exchanges:
     if code:
         raise refused(code)
     return entries
+
+
+def stats(part: Optional[int]) -> Exchanges:
+    """The numbers of the table and the server, or those of a partition, by name."""
+    said = yield b"stats\n" if part is None else b"stats %d\n" % part, 1
+    check(said)
+    words = [line.split() for line in said.decode("ascii").splitlines()[1:]]
+    return {name: int(number) for name, number in words}
 
 
 def layouts(keys: Keys) -> Exchanges:

@@ -1,5 +1,5 @@
-"""Runs all tests: python3 python/tests. Prints last 'N passed, M failed, K skipped'; the status is 0 only if nothing
-failed."""
+"""Runs all tests: python3 python/tests. The last line is 'N passed, M failed, K skipped'; the status is 0 only if
+nothing failed."""
 
 import pathlib
 import sys

@@ -1,4 +1,4 @@
-"""Dask clusters on this machine, for the tests of tables on one. Workers import this module as well."""
+"""Dask clusters on this machine, for the tests of `cluster.Table`. Workers import this module as well."""
 
 import contextlib
 import importlib.util
@@ -24,7 +24,7 @@ wants_cluster = unittest.skipIf(cluster is None, "numpy or dask.distributed isn'
 wants_pandas = unittest.skipIf(importlib.util.find_spec("pandas") is None, "pandas isn't installed")
 SECONDS = 300
 CONFIG = {
-    # (a local cluster gives up a place whose worker was killed twice within this time)
+    # a local cluster gives up a place whose worker was killed twice within this time
     "distributed.deploy.lost-worker-timeout": "1 hour",
     "distributed.comm.timeouts.connect": "60s",
     "distributed.comm.retry.count": 0,
@@ -80,7 +80,7 @@ def wait_for_workers(client, count):
             if len(client.run(os.getpid)) == count:
                 return
         except OSError:
-            # (the scheduler doesn't know yet that one was killed)
+            # the scheduler doesn't know yet that a worker was killed
             time.sleep(0.1)
 
 

@@ -1,5 +1,5 @@
-"""The kinds of keys: for each the least and the greatest key, those beside them and beside each limit of numbers, ends
-of ranges of every type with the exact value of each, and what is refused."""
+"""The types of keys, with values to test each: the least and greatest keys and their neighbours, keys beside each limit
+of a number type, ends of ranges of every type with their exact values, and values that are refused."""
 
 import dataclasses
 import datetime
@@ -61,7 +61,7 @@ class Kind:
 
 def days_before(year, month):
     """The days from 1970 to the first of a month, by the calendar of numpy and ISO 8601."""
-    # (a year begins in March here, so that a leap day is its last)
+    # a year begins in March here, so that a leap day is its last
     year, month = year + (month - 3) // 12, (month - 3) % 12
     return 365 * year + year // 4 - year // 100 + year // 400 + (153 * month + 2) // 5 - 719_468
 
@@ -106,7 +106,7 @@ THIRD = fractions.Fraction(1, 3)
 FRACTION_ENDS = [it + more for it in (LEAST, -EXACT, 0, EXACT, GREATEST, UNSIGNED) for more in (-THIRD, THIRD)]
 FRACTION_ENDS += [THIRD / 10**400, -THIRD / 10**400]
 NUMBER_ENDS = [*WHOLE_ENDS, *FLOAT_ENDS, *FRACTION_ENDS]
-# beyond all floats: ends of integers, and not of floats
+# beyond all floats: accepted as ends of ranges of integers, but not of floats
 FAR_ENDS = [sign * it for it in (2**1024, 10**400, fractions.Fraction(10**400, 3)) for sign in (-1, 1)]
 ALL_ENDS = [*NUMBER_ENDS, *FAR_ENDS]
 
@@ -230,7 +230,7 @@ def wrong_dates(dtype):
     """Dates of other units that a type doesn't have: between two, and beyond its limits."""
     keys = dates_of(dtype)
     moments = {value(it) for it in keys}
-    # (2**63 seconds before 1970 would be NaT)
+    # 2**63 seconds before 1970 would be NaT
     wrong = [(np.int64(-(2**62)).view("datetime64[2s]"), OverflowError)] if dtype == "datetime64[s]" else []
     for other in DATE_TYPES:
         for it in at_most(value(keys[3]), other)[2:]:

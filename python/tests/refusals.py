@@ -1,6 +1,6 @@
 """Run by test_memory.py with an allocator that refuses memory to the library: refusals.py STEPS HOW [SHARDS]
 
-Prints how many calls were refused, and fails if the table and a plain list no longer agree.
+Prints how many calls were refused. Fails if the table and a plain list differ.
 """
 
 import ctypes

@@ -1,4 +1,4 @@
-"""Tasks that share a connection: what they send, what they get, and what becomes of those that are cancelled."""
+"""Tasks that share a connection: what they send, what they get, and what happens if a task is cancelled."""
 
 import asyncio
 import contextlib
@@ -119,7 +119,7 @@ class Tasks(unittest.IsolatedAsyncioTestCase):
                 await table.count(1, 2)
 
     async def test_a_server_that_is_slow_but_not_silent(self):
-        # (the pauses are far below the timeout, also on a busy machine, and together above it)
+        # each pause is far below the timeout, even on a busy machine; together they are above it
         async with Scripted.connected(lambda line, it: b"", timeout=2) as (table, scripted):
             waiting = asyncio.ensure_future(table.insert_many(range(8), range(8)))
             for serial in range(8):
@@ -144,7 +144,7 @@ class Tasks(unittest.IsolatedAsyncioTestCase):
                     with self.assertRaises(crackd.TimedOut):
                         await asyncio.wait_for(waiting, 30)
                     continue
-                # (until after the moment at which the wait would have ended)
+                # until after the moment at which the call would have timed out
                 await asyncio.wait([waiting], timeout=0.5)
                 self.assertFalse(waiting.done())
                 scripted.writers[0].write(b"count 7\n")
@@ -290,7 +290,7 @@ class Shared(unittest.IsolatedAsyncioTestCase):
             await table.insert(1, 5)
             shared = table._table
             try:
-                # (as in a child)
+                # as a forked child does
                 shared._leave()
                 for call in (table.count, table.ping, lambda: table.insert(1, 1), table.close, lambda: table.sum(1, 1)):
                     with self.assertRaises(crackd.Forked):

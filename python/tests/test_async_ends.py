@@ -152,7 +152,7 @@ class Closing(unittest.IsolatedAsyncioTestCase):
             with self.assertRaises(crackd.OutOfMemory):
                 await crackd.connect_async(port=served.sockets[0].getsockname()[1])
             await asyncio.wait_for(ended.wait(), SECONDS)
-        # (a connection begins with a sign of life, and nothing comes after its end)
+        # a connection begins with a ping, and nothing follows its end
         self.assertEqual(heard, [b"ping\n", b"policy auto\n", b"quit\n", b""])
 
 
@@ -164,7 +164,7 @@ class Waits(unittest.IsolatedAsyncioTestCase):
             for _ in range(2):
                 await asyncio.sleep(0.4)
                 self.assertEqual(await table.count(), 7)
-            # (set while it is idle)
+            # changed while the connection is idle
             table.timeout = 0.2
             await asyncio.sleep(0.3)
             self.assertEqual((await table.count(), table.timeout), (7, 0.2))
@@ -209,7 +209,7 @@ class Turns(unittest.IsolatedAsyncioTestCase):
                     self.assertEqual(scripted.heard, [b"count %d %d\n" % (it, it + 1) for it in range(count)])
 
     async def test_much_at_once(self):
-        # (more than a connection takes at once)
+        # more than a connection takes at once
         count = 20_000
         got = bytearray()
 

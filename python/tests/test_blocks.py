@@ -1,4 +1,4 @@
-"""Over TCP: calls for more items than are sent at once, and what a server of the tests answers."""
+"""Calls over TCP for more items than are sent at once, and the answers of a server of the tests."""
 
 import contextlib
 import itertools
@@ -12,7 +12,7 @@ from ways import OverTcp, crackd, wants_program
 from crackd import server, wire
 
 AT_ONCE = 3
-# how long either side waits for the other at most
+# the greatest number of seconds that either side waits for the other
 SECONDS = 30
 
 
@@ -63,7 +63,7 @@ class Refusals(Blocks, unittest.TestCase):
     """What is done, what is done later, and the numbers of the rows that are placed."""
 
     def test_rows_that_find_no_room(self):
-        # (the second key that is refused, and what follows it in its block)
+        # keys, of which at most four from 200 on find room; `done` and `later` of the error; how many rows are inserted
         cases = [
             ([1, 2, 200, 3, 4, 201, 5, 202, 6, 203], (6, 1), 7),
             ([1, 2, 3, 4, 5, 200, 201], (4, 1), 5),
@@ -127,7 +127,7 @@ class Answers(Blocks, unittest.TestCase):
                 self.assertEqual(table.count(), 0)
 
     def test_a_table_settles_by_its_own_policy_afterwards(self):
-        # (rows in the column, pending insertions) after a query of 10 keys of the 2 rows that came later
+        # (rows in the column, pending insertions) after 2 later inserts and a query of 10 keys, which meets one of them
         wanted = {"complete": (102, 0), "gradual": (101, 1), "ripple": (100, 2)}
         for policy, columns in wanted.items():
             with self.subTest(policy), self.table(policy=policy) as table:

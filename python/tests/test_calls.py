@@ -1,5 +1,5 @@
-"""What a table asks of the library, by stand-ins for its functions: one call at a time, `done` as it reports it, and
-what happens between two calls."""
+"""The calls that a table makes of the library, watched by stand-ins for its functions: one call at a time, `done` as
+the library reports it, and what happens between two calls."""
 
 import collections
 import contextlib
@@ -223,13 +223,13 @@ class Reported(InProcess, unittest.TestCase):
                         self.assertRaises(wanted, len, table)
 
     def test_a_table_of_arrays_that_fails_is_closed(self):
-        for name, code in [("insert_many", 9), ("insert_many", 8), ("count", 8)]:
+        for name, code in [("insert_many", 9), ("insert_many", 8), ("long_count", 8)]:
             watch = Watch()
             with self.subTest(name), watch.standing_in(), standing_in(**{name: lambda real, *words: code}):
                 try:
                     crackd.Table.from_arrays([1, 2, 3])
                 except crackd.Refused as error:
-                    # (while the error is there, so is the table)
+                    # the error's traceback still refers to the table, so it was closed and not only collected
                     self.assertEqual((error.code, watch.names.count("open"), watch.names.count("close")), (code, 1, 1))
                 else:
                     self.fail("nothing was refused")
@@ -328,7 +328,7 @@ class Histories(InProcess, unittest.TestCase):
             self.assertLess(self.entries(table, self.SELECTS), 250)
 
     def test_rows_that_come_and_go_one_by_one(self):
-        # (selects of 1,000 rows each, of which the third is the first to list more than 2,000)
+        # each select lists 1,000 rows, and with the third one more than 2,000 are listed
         for way, remains in [("one", 1000), ("many", 1000), ("none", 4000)]:
             with self.subTest(way), mock.patch.object(local, "LISTED", 1000), self.table() as table:
                 rows = [table.insert(it, 1) for it in range(4000)]
@@ -345,8 +345,8 @@ class Histories(InProcess, unittest.TestCase):
                 self.assertEqual(table.checkpoint() < 6, way != "none")
 
     def test_each_way_to_insert_and_to_delete_counts(self):
-        # (a select lists 100 rows, and is two entries: it counts first. With 400 rows all four are kept; with 100 rows
-        # the third is the first to list more than 100 beyond these)
+        # A select lists 100 rows and makes two entries, since it counts first. With 400 rows in the table the entries
+        # of all four selects are kept. With 100 rows, the rows listed by three selects exceed those by more than 100.
         for shards in (1,) if np is None else (1, 2):
             for insert, delete in itertools.product(self.INSERTS, self.DELETES):
                 with self.subTest(shards=shards, insert=insert, delete=delete):
@@ -391,7 +391,7 @@ class Histories(InProcess, unittest.TestCase):
 
     def test_a_deletion_that_is_refused_counts_as_far_as_it_came(self):
         def refusing(real, *words):
-            # (nothing is deleted; the last flags aren't of rows that were reached)
+            # deletes nothing, reports 300 rows as done, and also sets the flags of later rows, which don't count
             ctypes.memset(words[-3], 1, words[-2])
             words[-1]._obj.value = 300
             return 8
@@ -400,7 +400,7 @@ class Histories(InProcess, unittest.TestCase):
             rows = table.insert_many(range(400), [1] * 400)
             with standing_in(delete_many=refusing):
                 self.assertRaises(crackd.OutOfMemory, table.delete_many, [*rows, *rows, *rows])
-            # (300 count as gone, as if 100 were left)
+            # 300 rows count as deleted, as if 100 were left
             self.assertEqual(self.entries_of_four(table), 2)
 
     def test_memory_of_a_loop_of_selects(self):
@@ -408,7 +408,7 @@ class Histories(InProcess, unittest.TestCase):
             with open("/proc/self/statm", encoding="ascii") as file:
                 return int(file.read().split()[1]) * os.sysconf("SC_PAGE_SIZE")
 
-        # (the last 1,000 selects list 5 million rows, of 8 bytes or more in a history)
+        # the last 1,000 selects list 5 million rows, each of which takes 8 bytes or more in a history
         with self.table() as table:
             table.insert_many(range(5000), range(5000))
             for number in range(1200):

@@ -1,4 +1,4 @@
-"""Connections: lines that come in pieces, and more than is sent at once."""
+"""Connections: lines that arrive in pieces, and texts that are too long to be sent at once."""
 
 import contextlib
 import itertools
@@ -15,7 +15,7 @@ from crackd import channel
 from crackd.channel import Channel
 
 LARGE = 3_000_000
-# how long either side waits for the other at most
+# the greatest number of seconds that either side waits for the other
 SECONDS = 30
 
 

@@ -309,15 +309,15 @@ class Refusals(OnWorkers, unittest.TestCase):
             with self.subTest(kind), self.table(splits=[100]) as table:
                 row, answer, asked = table.insert(5, 50), table._result, []
 
-                def interrupted(shard, future):
-                    asked.append(answer(shard, future))
+                def interrupted(*words):
+                    asked.append(answer(*words))
                     if len(asked) == 2:
                         raise crackd.OutOfMemory(8) if kind is crackd.OutOfMemory else KeyboardInterrupt
                     return asked[-1]
 
                 with mock.patch.object(table, "_result", interrupted), self.assertRaises(kind) as caught:
                     table.move(row, 150)
-                # (the row has its new key; a refusal says that it hasn't)
+                # the row has its new key; a refusal, which denies this, has it also inserted again with its old key
                 self.assertEqual(table.count(), 1 if kind is KeyboardInterrupt else 2)
                 self.assertEqual((caught.exception.row, table.count(150)), ((5, 50), 1))
 
@@ -325,11 +325,11 @@ class Refusals(OnWorkers, unittest.TestCase):
         with self.table(splits=[100, 200]) as table:
             result, asked = table._result, []
 
-            def interrupted(shard, future):
+            def interrupted(shard, *words):
                 asked.append(shard)
                 if shard == 2:
                     raise KeyboardInterrupt
-                return result(shard, future)
+                return result(shard, *words)
 
             with mock.patch.object(table, "_result", interrupted), self.assertRaises(KeyboardInterrupt) as caught:
                 table.insert_many([250, 1, 150, 2], [1, 2, 4, 8])

@@ -1,5 +1,5 @@
-"""Fields of files at their limits, streams of Arrow that say little, files of rows that are none, and texts of errors
-and of the command."""
+"""Fields of CSV files at their limits, Arrow streams without optional parts, files that `save` didn't write, and the
+texts of errors and of the command."""
 
 import contextlib
 import ctypes
@@ -20,7 +20,7 @@ from crackd import __main__ as program
 from crackd import arrow, described, errors, frames, pandascsv, saved, server
 from crackd.keys import Keys
 
-# a field that is longer than the module csv reads
+# a field that is too long for the module csv
 LONG = "9" * 131_073
 
 
@@ -60,7 +60,7 @@ class Fields(WithFiles, unittest.TestCase):
         for decimals in (39, 40):
             text = f".{'0' * 37}7,1\n"
             self.assertEqual(self.rows(text, key_decimals=decimals), [(1, 7 * 10 ** (decimals - 38))])
-        # (a field has up to 40 characters)
+        # a field has up to 40 characters
         self.assertEqual(self.rows(f".{'0' * 38}7,1\n", key_decimals=40), [(1, 70)])
         self.assertEqual(self.rows(f"{'0' * 35}12.34,1\n", key_decimals=2), [(1, 1234)])
         self.wrong(1, 1, f"{'0' * 36}12.34,1\n", key_decimals=2)
@@ -72,7 +72,7 @@ class Fields(WithFiles, unittest.TestCase):
                 with self.assertRaises(TypeError):
                     self.rows("1,1\n", **{name: wrong})
         self.assertEqual(self.rows("1,1\n", key_decimals=0, payload_decimals=0), [(1, 1)])
-        # (18 digits are read at once, and 19 one by one)
+        # 18 digits are read at once, and 19 one by one
         for whole, decimals in [(16, 2), (17, 2), (1, 17), (2, 17), (1, 18)]:
             field = f"{'8' * whole}.{'7' * decimals}"
             self.assertEqual(self.rows(f"-{field},1\n", key_decimals=decimals), [(1, -int(field.replace(".", "")))])
@@ -121,7 +121,7 @@ class Fields(WithFiles, unittest.TestCase):
                 self.assertIn("field larger than field limit", said)
         for words in (("b",), ("b", "a"), (0, "b")):
             self.assertIn("field larger", self.wrong(1, 1, f"{LONG},b\n1,2\n", *words))
-        # (a wrong field before it is the first)
+        # an earlier wrong field is reported first
         self.wrong(2, 1, f"1,2\nx,4\n{LONG},1\n")
         self.wrong(2, 2, f"1,2\n3\n{LONG},1\n")
 
@@ -138,7 +138,7 @@ class Worth(WithFiles, unittest.TestCase):
                 with mock.patch("importlib.util.find_spec"), mock.patch("importlib.import_module") as imported:
                     found = pandascsv.pandas_for(path)
                 self.assertIs(found, imported.return_value if is_worth else None)
-                # (where it is imported already, any file is)
+                # if pandas is imported already, any file is worth it
                 pandascsv.sys.modules["pandas"] = mock.sentinel.pandas
                 self.assertIs(pandascsv.pandas_for(path), mock.sentinel.pandas)
         for fault in (ImportError, ModuleNotFoundError):

@@ -1,4 +1,4 @@
-"""What a client says and what it makes of the replies: full histories, refusals, and connections that end."""
+"""What a client sends and how it reads the replies: full histories, refusals, and connections that end."""
 
 import contextlib
 import itertools
@@ -16,7 +16,7 @@ from crackd.channel import Channel
 from crackd.keys import Keys
 
 TOP = 2**64
-# how long either side waits for the other at most
+# the greatest number of seconds that either side waits for the other
 SECONDS = 30
 
 

@@ -1,4 +1,4 @@
-"""Dates as text, and kinds of keys beside each other, by days that are counted here."""
+"""Dates as text, and types of keys compared with each other, by days that are counted here."""
 
 import datetime
 import fractions
@@ -7,7 +7,7 @@ import pickle
 import unittest
 
 from kinds import DATE_TYPES, days_before
-from ways import InProcess, InShards, crackd, np, wants_numpy, wants_shards
+from ways import InProcess, InShards, OverTcp, crackd, np, wants_numpy, wants_program, wants_shards
 
 from crackd.keys import Keys
 
@@ -45,7 +45,7 @@ class Dates:
         for text, (year, month, day, seconds) in TEXTS.items():
             moment = (days_before(year, month) + day - 1) * 86_400 + seconds
             for unit, size in [("D", 86_400), ("s", 1), ("us", fractions.Fraction(1, 10**6))]:
-                # (the least number of units that isn't before it)
+                # the least number of units that isn't before the moment
                 least = -(-moment // size)
                 with self.subTest(text, unit=unit):
                     if -(2**63) < least - 2 and least + 2 < 2**63:
@@ -66,14 +66,14 @@ class Dates:
                     self.assertRaises(ValueError, table.count_many, [text], None)
                     self.assertRaises(ValueError, table.count_by, ["1900", text])
             for text in ("2020-01-01", "2020"):
-                # (an end may be text, and a key not)
+                # the end of a range may be text, but a key may not
                 self.assertRaises(TypeError, table.insert, text, 1)
                 self.assertRaises(TypeError, table.insert_many, [text], [1])
             self.assertEqual(table.count(), 1)
 
 
     def test_the_epoch_of_each_unit_in_each_other(self):
-        # (some units are more than 2**63 of another)
+        # some units are more than 2**63 times as long as others
         for own in self.UNITS:
             with self.table(key_type=own) as table:
                 for other in DATE_TYPES:
@@ -142,6 +142,14 @@ class InShardsDates(Dates, InShards, unittest.TestCase):
     """In several shards."""
 
     UNITS = ("datetime64[W]", "datetime64[ns]")
+
+
+@wants_numpy
+@wants_program
+class OverTcpDates(Dates, OverTcp, unittest.TestCase):
+    """Over TCP."""
+
+    UNITS = ("datetime64[D]", "datetime64[us]")
 
 
 if __name__ == "__main__":

@@ -1,4 +1,4 @@
-"""What tables look like: in a line, in a notebook, and to a checker of types."""
+"""What tables look like in a line, in a notebook, and to a type checker."""
 
 import contextlib
 import ctypes
@@ -56,19 +56,19 @@ class InProcessDescribed(Described, InProcess, unittest.TestCase):
             said = "<crackd.Table: {} rows, int64 keys, 2 partitions, policy ripple, memory about {} MB>"
             self.assertEqual(repr(table), said.format(0, "0.0"))
             table.insert_many(range(1234), range(1234))
-            self.assertEqual((repr(table), str(table)), (said.format("1,234", "1.1"),) * 2)
-            # (nothing was merged)
+            self.assertEqual((repr(table), str(table)), (said.format("1,234", "0.8"),) * 2)
+            # nothing was merged
             self.assertEqual(sum(it.pending_in for it in table.layout().parts), 1234)
         self.assertEqual(repr(table), "<crackd.Table: int64 keys, 2 partitions, policy ripple, closed>")
         with self.table(key_type="float64") as table:
             table.insert(1, 1)
-            said = "<crackd.Table: 1 row, float64 keys, 1 partition, policy auto, memory about 0.5 MB>"
+            said = "<crackd.Table: 1 row, float64 keys, 1 partition, policy auto, memory about 0.3 MB>"
             self.assertEqual(repr(table), said)
 
     def test_a_table_in_a_notebook(self):
         with self.table(key_type="uint64") as table:
             table.insert_many([1, 2], [1, 2])
-            wanted = {"rows": "2", "keys": "uint64", "partitions": "1", "policy": "auto", "memory": "about 0.5 MB"}
+            wanted = {"rows": "2", "keys": "uint64", "partitions": "1", "policy": "auto", "memory": "about 0.3 MB"}
             self.assertEqual(self.html(table), (wanted, "crackd.Table"))
         del wanted["rows"], wanted["memory"]
         self.assertEqual(self.html(table), ({**wanted, "state": "closed"}, "crackd.Table"))
@@ -252,7 +252,7 @@ class Typed(unittest.TestCase):
             ran = subprocess.run(command, cwd=room, capture_output=True, text=True, check=False)
         self.assertEqual(ran.returncode, 0, ran.stdout)
         found = [it.partition("Revealed type is ")[2].strip('"') for it in ran.stdout.splitlines() if "Revealed" in it]
-        # (a named tuple is shown with the types of its items)
+        # mypy shows a named tuple with the types of its items
         named = [it.partition("fallback=")[2].rstrip("]") for it in found]
         self.assertEqual([name or it for name, it in zip(named, found)], self.WANTED)
 

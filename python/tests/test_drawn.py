@@ -1,4 +1,4 @@
-"""Pictures: which rows and bounds count, at the ends of columns, and what scripts may have."""
+"""Pictures: which rows and bounds are counted, the ends of columns, and what scripts may contain."""
 
 import contextlib
 import io
@@ -164,7 +164,7 @@ class Scripts(unittest.TestCase):
 
     def test_one_query(self):
         text = "insert 10 1\ninsert 20 2\ninsert 30 3\ncount 15 end\n"
-        # (all three rows are merged, and an empty column is cracked)
+        # all three rows are merged, and an empty column is cracked
         self.assertEqual(self.works(self.drawn(text)), [3])
         self.assertIn("auto: 0</text>", self.drawn(text, "--policies"))
 
@@ -187,7 +187,7 @@ class Scripts(unittest.TestCase):
         for policy in crackd.base.POLICIES:
             text = f"policy {policy}\n{rows}count 4 5\n"
             drawn = self.drawn(text, "--policies")
-            # (by docs/GUIDE.md: ripple merges what a range needs, and complete all)
+            # docs/GUIDE.md: ripple merges what a range needs, and complete merges everything
             self.assertIn(">complete: 0</text>", drawn)
             self.assertIn(">ripple: 8</text>", drawn)
             self.assertEqual(drawn, self.drawn(text.partition("\n")[2], "--policies"))

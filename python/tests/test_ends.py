@@ -95,7 +95,7 @@ class EndsOfNumbers:
             table.insert_many(keys, [1, 2, 4, 8, 16])
             for end in [*far, *(-it for it in far)]:
                 self.not_a_float(table, end)
-            # (floats that are rounded aren't beyond them)
+            # integers that round to a finite float aren't beyond all floats
             last = 2**1024 - 2**970 - 1
             ends = [math.inf, LARGEST_FLOAT, last, int(LARGEST_FLOAT) + 1, 0, -last, -math.inf]
             self.assertEqual([table.sum(it) for it in ends], [16, 24, 16, 16, 28, 30, 31])

@@ -1,4 +1,4 @@
-"""What errors are, what they say, and what is left of them when they are copied."""
+"""The types and texts of errors, and what copies of them keep."""
 
 import copy
 import gc
@@ -6,11 +6,11 @@ import pickle
 import unittest
 import weakref
 
-from ways import InProcess, InShards, crackd, np, wants_library, wants_numpy, wants_shards
+from ways import InProcess, InShards, OverTcp, crackd, np, wants_library, wants_numpy, wants_program, wants_shards
 
 from crackd import errors
 
-# the kinds of refusals by their codes, with what else each is
+# the error of each refusal by its code, and the built-in error that it also is
 KINDS = {
     4: (crackd.WrongPartition, ValueError),
     5: (crackd.NoSuchPartition, LookupError),
@@ -184,7 +184,7 @@ class Arrays:
                             (table.update_many, rows, [1] * 4, it),
                             (table.delete_many, it),
                         ]:
-                            # (some have no length, or another one)
+                            # some arrays have no length, or another one
                             self.assertRaises((ValueError, TypeError) if it.ndim != 1 else kind, call, *words)
                         if it.dtype.char not in "gO":
                             self.assertRaises(kinds, table.count_many, it, None)
@@ -215,6 +215,17 @@ class InProcessArrays(Arrays, InProcess, unittest.TestCase):
 @wants_shards
 class InShardsArrays(Arrays, InShards, unittest.TestCase):
     """In several shards."""
+
+
+@wants_program
+class OverTcpRaised(Raised, OverTcp, unittest.TestCase):
+    """Over TCP."""
+
+
+@wants_shards
+@wants_program
+class OverTcpArrays(Arrays, OverTcp, unittest.TestCase):
+    """Over TCP."""
 
 
 if __name__ == "__main__":

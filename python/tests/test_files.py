@@ -93,7 +93,7 @@ class Files(unittest.TestCase):
         )
         self.wrong("line 1, column 1: NaN can't be a key", "nan,1\n", key_column=Column(is_float=True))
         self.wrong("line 1, column 1: '" + "9" * 40 + "..' isn't " + f"{-(2**63)} to {2**63 - 1}", "9" * 5000 + ",1\n")
-        # (a field of several lines, and the line at which a record ends)
+        # a field of several lines: the error names the line at which the record ends
         self.wrong("line 3, column 1: 'x\\ny' isn't an integer", '1,1\n"x\ny",1\n')
 
     def test_floats_are_written_in_plain_digits(self):
@@ -200,7 +200,7 @@ class Loads:
     def test_a_load_into_a_table(self):
         with self.table() as table:
             self.assertIs(crackd.load_csv(self.path("key,payload\n1,10\n2,-30\n-7,5\n"), into=table), table)
-            # (before a query, which may merge them)
+            # before any query, since a query may merge rows
             self.assertEqual(sum(it.pending_in for it in table.layout().parts), 0)
             self.assertEqual((table.count(), table.sum(), table.sum(0, 2)), (3, -15, 10))
 

@@ -1,4 +1,4 @@
-"""What a forked child may do with its parent's tables and servers."""
+"""What a forked child process may do with its parent's tables and servers."""
 
 import contextlib
 import os

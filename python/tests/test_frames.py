@@ -1,4 +1,4 @@
-"""Tables of pandas's frames and of Arrow's data, and rows as frames."""
+"""Tables made of pandas frames and of Arrow data, and rows as frames."""
 
 import contextlib
 import ctypes
@@ -178,7 +178,7 @@ class Frames:
                     self.assertRaises(ValueError, table.select().to_pandas)
 
 
-# A stand-in for a library of Arrow
+# A stand-in for an Arrow library
 
 
 class Data:

@@ -1,5 +1,4 @@
-"""Tables of several shards in one process: what threads, refusals, signals and forks leave of calls over some of
-them."""
+"""Tables of several shards in one process: what threads, refusals, signals and forks do to calls over them."""
 
 import contextlib
 import functools
@@ -17,13 +16,13 @@ from test_calls import standing_in
 from test_cluster import RandomSteps
 from test_forks import in_child, outcome
 from test_memory import resident
-from test_signals import SECONDS, Signalling, handling
+from test_signals import Signalling, handling
 from test_table import numbers
 from ways import InShards, crackd, np, wants_shards
 
 from crackd import library, local, pool, routing
 
-# (seconds after which a test that hangs fails)
+# seconds after which a test that hangs fails
 SPLITS, EACH, WAIT = [100, 200], 40, 120
 # keys of each of three shards in turn
 KEYS = [shard * 100 + it for it in range(EACH) for shard in range(3)]
@@ -111,7 +110,7 @@ class Openings(unittest.TestCase):
 
         with standing_in(open=open_, close=close), self.assertRaises(crackd.OutOfMemory) as caught:
             crackd.Table(splits=SPLITS, shards=3)
-        # (while the error is there, so is the table)
+        # the error's traceback still refers to the table, so it was closed and not only collected
         self.assertEqual((len(calls), len(closed), caught.exception.code), (3, 2, 8))
 
 
@@ -140,7 +139,7 @@ class Rows(InShards, unittest.TestCase):
                 found = table.select()
                 at = {row: it for row, it in zip(numbers(found.rows), zip(found.keys, found.payloads))}
                 self.assertEqual([at[it] for it in numbers(table.row_numbers)], list(zip(keys, payloads)))
-                # (rows of equal shards come in the order of their numbers, which is that of the arrays)
+                # rows of the same shard and partition have their numbers in the order of the arrays
                 whose = table.row_numbers >> np.uint64(routing.SHARD_SHIFT)
                 parts = table.row_numbers >> np.uint64(48)
                 for part in np.unique(parts):
@@ -194,7 +193,7 @@ class Rows(InShards, unittest.TestCase):
                 held.clear()
             with mock.patch.multiple(local.LocalShard, **steps), stopping_one(table, 2):
                 self.assertRaises(crackd.OutOfMemory, table.move, row, 250)
-            # (it is taken, not placed, and put back)
+            # the row is deleted, refused with its new key, and inserted again
             self.assertEqual(held, [[True, False, True]] * 3)
             self.assertEqual((table.count(), table.sum(20, 21)), (1, 7))
 
@@ -230,7 +229,7 @@ class Orders(InShards, unittest.TestCase):
             with self.subTest(shards=shards), self.table(splits=range(10, 10 * shards, 10), shards=shards) as table:
                 keys = [drawn.randrange(10 * shards) for _ in range(3000)]
                 rows = numbers(table.insert_many(keys, range(3000)))
-                # (a row's number has its partition above 48 bits, and its place in time below)
+                # a row number has its partition above 48 bits, and below a serial, which rises with each insert
                 serials = {}
                 for row, key in zip(rows, keys):
                     self.assertEqual(row, (key // 10) << 54 | serials.setdefault(key // 10, 0))
@@ -247,7 +246,7 @@ class Orders(InShards, unittest.TestCase):
                 self.assertEqual(list(table.delete_many(twice)), gone)
 
     def test_a_move_locks_the_lower_shard_first(self):
-        # (else two moves that cross would wait for each other)
+        # otherwise two moves in opposite directions could deadlock
         with self.table(splits=SPLITS) as table:
             for origin, target in itertools.product((50, 150, 250), repeat=2):
                 row, locked = table.insert(origin, 1), []
@@ -272,7 +271,7 @@ class Refusals(InShards, unittest.TestCase):
                 self.assertEqual((error.code, error.done, error.later), (8, done, 2 * EACH + count - done))
                 found = table.select()
                 self.assertEqual(set(numbers(error.answers)), set(numbers(found.rows)))
-                # (the numbers are in the order of the keys)
+                # the row numbers are in the order of the given keys
                 key = dict(zip(numbers(found.rows), numbers(found.keys)))
                 placed = [it for it in KEYS if it // 100 != shard] + [it for it in KEYS if it // 100 == shard][:count]
                 self.assertEqual([key[it] for it in numbers(error.answers)], sorted(placed, key=KEYS.index))
@@ -291,7 +290,7 @@ class Refusals(InShards, unittest.TestCase):
                     self.assertEqual(table.sum(shard * 100, shard * 100 + 100), EACH - count)
 
     def test_the_first_row_that_is_refused_says_why(self):
-        # (a row of the shard, one whose key is another shard's, and two that no row can be)
+        # an existing row, a row whose new key belongs to another shard, and two numbers that no row can have
         with self.table(splits=SPLITS) as table:
             row = int(table.insert_many([150], [1])[0])
             rows = {0: (row, 150), 4: (row, 250), 5: (9 << 54, 150), -5: (row | 1 << 48, 150)}
@@ -395,150 +394,6 @@ class Lengths(unittest.TestCase):
                 self.assertEqual(rounds, [] if shards is None else [shards])
 
 
-class OwnKeys(RandomSteps):
-    """Random calls for the keys of one thread, which are of several shards."""
-
-    def __init__(self, test, table, rng, at, threads):
-        super().__init__(test, table, rng)
-        self.at, self.threads = at, threads
-        self.calls = [it for it in self.calls if it not in (self.far_update, self.others, self.select)]
-        self.calls += [self.selected, self.loaded, self.refused]
-
-    def key(self):
-        return self.rng.randrange(300) * self.threads + self.at
-
-    def range(self):
-        # (of one key, since others have those beside it)
-        low = self.key()
-        return low, low + 1
-
-    def many(self):
-        pairs = [self.range() for _ in range(20)]
-        self.test.assertEqual(numbers(self.table.count_many(*zip(*pairs))), [self.model.count(*it) for it in pairs])
-        self.test.assertEqual(self.table.sum_many(*zip(*pairs)), [self.model.sum(*it) for it in pairs])
-
-    def selected(self):
-        """All rows, of which these keys are looked at."""
-        got = self.table.select()
-        own = (it % self.threads == self.at for it in numbers(got.keys))
-        found = {row: (key, pay) for row, key, pay, is_own in zip(*map(numbers, got), own) if is_own}
-        self.test.assertEqual(found, self.model.rows)
-
-    def loaded(self):
-        keys = [self.key() for _ in range(300)]
-        payloads = [self.payload() for _ in keys]
-        rows = numbers(self.table.insert_many(keys, payloads))
-        self.model.rows.update(zip(rows, zip(keys, payloads)))
-        gone = self.rng.sample(sorted(self.model.rows), min(len(self.model.rows), 280))
-        self.test.assertTrue(all(self.table.delete_many(gone)))
-        for row in gone:
-            del self.model.rows[row]
-
-    def refused(self):
-        """An update of many of which one is refused for its number."""
-        rows = self.rows(5)
-        changed = {row: self.near(row) for row in rows}
-        with self.test.assertRaises(crackd.NoSuchPartition) as caught:
-            self.table.update_many([*rows, 9 << 54], *zip(*changed.values(), (1, 1)))
-        self.test.assertEqual((caught.exception.done, caught.exception.later), (len(rows), 0))
-        self.model.rows.update(changed)
-
-
-@wants_shards
-class Threads(InShards, unittest.TestCase):
-    """Threads that use one table at once."""
-
-    THREADS, STEPS = 5, 120
-
-    def run_threads(self, works):
-        """Runs these in a thread each. Returns what they raised."""
-        faults = []
-
-        def run(work):
-            try:
-                work()
-            except BaseException as error:
-                faults.append(error)
-
-        threads = [threading.Thread(target=run, args=(it,)) for it in works]
-        for it in threads:
-            it.start()
-        for it in threads:
-            it.join(SECONDS * 10)
-        self.assertFalse(any(it.is_alive() for it in threads))
-        return faults
-
-    def test_random_calls_agree_with_a_list_of_each_thread(self):
-        most = 300 * self.THREADS
-        with self.table(range(most), partitions=6, history=500) as table:
-            steps = [OwnKeys(self, table, random.Random(it), it, self.THREADS) for it in range(self.THREADS)]
-            works = [lambda it=it: [it.step() for _ in range(self.STEPS)] for it in steps]
-            self.assertEqual(self.run_threads([*works, lambda: [table.layout() for _ in range(50)]]), [])
-            rows = {row: it for each in steps for row, it in each.model.rows.items()}
-            self.assertEqual((table.count(), table.layout().rows), (len(rows), len(rows)))
-            self.assertEqual(table.sum(), sum(it[1] for it in rows.values()))
-
-    def test_a_table_is_closed_amid(self):
-        for _ in range(5):
-            with self.table(range(1500), partitions=6) as table:
-                steps = [OwnKeys(self, table, random.Random(it), it, self.THREADS) for it in range(self.THREADS)]
-
-                def work(it):
-                    while True:
-                        it.step()
-
-                def close():
-                    time.sleep(0.1)
-                    table.close()
-                    table.close()
-
-                faults = self.run_threads([close, *(lambda it=it: work(it) for it in steps)])
-                self.assertEqual({type(it) for it in faults}, {crackd.Closed}, faults)
-                self.assertEqual(len(faults), self.THREADS)
-
-    def test_a_call_is_interrupted_amid(self):
-        class Stop(Exception):
-            pass
-
-        def stop(*_):
-            raise Stop
-
-        with self.table(range(1500), partitions=6) as table, handling(signal.SIGVTALRM, stop):
-            is_over, steps = threading.Event(), OwnKeys(self, table, random.Random(1), 1, 2)
-
-            def work():
-                while not is_over.is_set():
-                    steps.step()
-
-            thread = threading.Thread(target=lambda: faults.extend(self.run_threads([work])))
-            faults = []
-            thread.start()
-            keys, stopped = np.tile(np.arange(0, 1400, 2), 5), 0
-            try:
-                # (a test that hangs is ended)
-                for number in range(40):
-                    signal.alarm(SECONDS)
-                    answers = None
-                    try:
-                        signal.setitimer(signal.ITIMER_VIRTUAL, 0.0002 + 0.0001 * (number % 20))
-                        answers = table.insert_many(keys, keys)
-                        signal.setitimer(signal.ITIMER_VIRTUAL, 0)
-                    except Stop as error:
-                        stopped, answers = stopped + 1, getattr(error, "answers", answers)
-                    got = table.select()
-                    own = set(got.rows[got.keys % 2 == 0].tolist())
-                    # (a signal may come before the call, or after it)
-                    if answers is not None:
-                        self.assertLessEqual(set(numbers(answers)), own)
-                    self.assertTrue(all(table.delete_many(sorted(own))))
-            finally:
-                is_over.set()
-                thread.join()
-            self.assertEqual(faults, [])
-            self.assertGreater(stopped, 0)
-            self.assertEqual(table.count(), len(steps.model.rows))
-
-
 @wants_shards
 class Signals(InShards, unittest.TestCase):
     """Signals during a call over several shards."""
@@ -569,7 +424,7 @@ class Signals(InShards, unittest.TestCase):
             asked, told = [], []
 
             def ask(*_):
-                # (its own calls are interrupted as well)
+                # the calls of the handler are interrupted as well
                 if not asked:
                     asked.append(None)
                     table.insert_many([7, 107, 207], [1, 1, 1])
@@ -591,7 +446,7 @@ class Signals(InShards, unittest.TestCase):
         def call(real, *words):
             if threading.current_thread() is not threading.main_thread():
                 os.kill(os.getpid(), signal.SIGUSR1)
-                # (the handler waits for this shard, and not for ever)
+                # the handler waits for this shard's lock, which this thread holds, so this wait must end
                 is_in.wait(0.2)
             return real(*words)
 
@@ -703,7 +558,7 @@ class Pool(unittest.TestCase):
         threads = []
 
         def inner():
-            # (long enough that another thread would come)
+            # long enough for another thread to take a job
             time.sleep(0.02)
             threads.append(threading.get_ident())
 
@@ -755,7 +610,7 @@ class Pool(unittest.TestCase):
             has_raised = threading.Event()
             with self.assertRaises(SystemExit):
                 self.run_jobs({it: (lambda it=it: own(it)) for it in range(2)})
-        # (the threads go on)
+        # the threads of the pool go on
         self.test_two_run_at_once()
 
     def test_an_interruption_waits_for_what_runs(self):
@@ -775,7 +630,7 @@ class Pool(unittest.TestCase):
         answers, errors = {}, {}
         with self.helpers(1), self.assertRaises(KeyboardInterrupt):
             pool.run_side_by_side({0: own, 1: own, 2: own}, answers, errors)
-        # (the third job doesn't begin)
+        # the third job isn't begun
         self.assertEqual((steps, len(answers)), (["ended"], 1))
         self.assertEqual([type(it) for it in errors.values()], [KeyboardInterrupt])
         self.assertEqual(pool._within, set())

@@ -1,5 +1,5 @@
-"""A KeyboardInterrupt at each place of a call where the interpreter may look for signals: no row is lost, and nothing
-stays locked."""
+"""Raises KeyboardInterrupt at each place of a call where the interpreter may check for signals: no row is lost, and
+nothing stays locked."""
 
 import contextlib
 import dis
@@ -19,8 +19,8 @@ from crackd import library, pool, progress
 
 PACKAGE, SECONDS = str(pathlib.Path(crackd.__file__).parent), 120
 SPLITS = [100, 200]
-# a call passes untouched this often before its places are over: of shards side by side now this thread, now another
-# one has more places
+# the places of a call are over once this many calls in a row weren't interrupted: if shards answer in parallel, this
+# thread has more places in some calls than in others
 UNTOUCHED = 4
 
 
@@ -53,7 +53,7 @@ class Interrupting:
         self.left, self.has_raised, self.is_unwinding = number, False, False
 
     def __call__(self, frame, event, _):
-        # (where a function begins; a generator is also called when it is closed)
+        # this is called where a function begins, and for a generator also when it is closed
         self.is_unwinding = False
         if is_own(frame):
             frame.f_trace_opcodes = True
@@ -62,7 +62,7 @@ class Interrupting:
         return self.step if is_own(frame) or is_own(frame.f_back) else None
 
     def step(self, frame, event, _):
-        # (a generator returns to a function of C, which is watched, or to one that yields from it)
+        # generators don't count here: one returns to a function of C, which is watched, or to one that yields from it
         if event == "return" and is_own(frame.f_back) and not (self.is_unwinding or is_generator(frame)):
             self.pass_place()
         self.is_unwinding = event == "exception" or event == "return" and self.is_unwinding
@@ -81,15 +81,25 @@ class Interrupting:
             raise KeyboardInterrupt
 
     @contextlib.contextmanager
+    def within(self):
+        """Watches this thread, while stand-ins call the library."""
+        sys.settrace(self), sys.setprofile(self.profile)
+        try:
+            yield
+        finally:
+            sys.settrace(None), sys.setprofile(None)
+
+    @contextlib.contextmanager
     def here(self):
         """Watches this thread."""
-        # (a function of the library is none that is watched, unless one of Python calls it)
-        with standing_in(**dict.fromkeys(library.FORMS, lambda real, *words: real(*words))):
-            sys.settrace(self), sys.setprofile(self.profile)
-            try:
-                yield
-            finally:
-                sys.settrace(None), sys.setprofile(None)
+        with stand_ins(), self.within():
+            yield
+
+
+def stand_ins():
+    """Has Python functions call the library, since a call isn't noticed otherwise. Only one thread at a time may do so:
+    two that replace the same functions would put them back in the wrong order."""
+    return standing_in(**dict.fromkeys(library.FORMS, lambda real, *words: real(*words)))
 
 
 def in_a_thread(work):
@@ -105,7 +115,7 @@ class Interrupts:
     """What is done with a table, and checked, after an interrupt at each place."""
 
     def setUp(self):
-        # (an interrupt of the `__del__` of an earlier table, which is collected meanwhile, goes unnoticed)
+        # an earlier table that is collected during a call could be interrupted in its `__del__`, which Python ignores
         gc.collect(), gc.disable()
         self.addCleanup(gc.enable)
 
@@ -124,7 +134,7 @@ class Interrupts:
             with self.subTest(place=number):
                 self.assertTrue(not interrupting.has_raised or isinstance(found, KeyboardInterrupt))
                 check(found)
-        # (that there are many places shows that they were found)
+        # a large number shows that the places were found
         self.assertGreater(number, 10)
 
     def check_free(self, table):
@@ -262,10 +272,10 @@ class SeveralShards(Interrupts, InShards, unittest.TestCase):
                     has_begun.wait(SECONDS)
                     return real(*words)
                 has_begun.set()
-                with interrupting.here():
+                with interrupting.within():
                     return real(*words)
 
-            with mock.patch.object(crackd.table, "_answer", answer):
+            with stand_ins(), mock.patch.object(crackd.table, "_answer", answer):
                 yield
 
         with self.answering("side by side") as table:

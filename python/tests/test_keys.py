@@ -1,5 +1,5 @@
 """Which keys, payloads, row numbers and options are accepted, alone and in lists and arrays, and which errors others
-are."""
+raise."""
 
 import array
 import datetime
@@ -213,7 +213,7 @@ class Arguments:
                         kind = OverflowError if abs(found) > GREATEST else ValueError if rest else None
                         self.one_date(table, np.datetime64(number, other), kind or np.datetime64(found, own))
         with self.table(key_type="datetime64[s]") as table:
-            # (the least integer of 64 bits is NaT)
+            # the least integer of 64 bits is NaT
             self.one_date(table, np.datetime64(-(2**62), "2s"), OverflowError)
             self.one_date(table, np.datetime64(-(2**62) + 1, "2s"), np.datetime64(-(2**63) + 2, "s"))
             table.insert_many([np.datetime64(2**62, "s"), np.datetime64(0, "ns")], [1, 2])
@@ -292,7 +292,7 @@ class Kinds(unittest.TestCase):
             self.assertEqual(kind_of(keys), Keys.named("int64"))
         for keys, name in [([], "int64"), ([1], "int64"), ([-1, GREATEST], "int64"), ([2**63], "uint64")]:
             self.assertEqual(kind_of(keys), Keys.named(name))
-        # (one large key makes all unsigned, wherever it is)
+        # one large key makes the type unsigned, wherever it is in the list
         for large, name in [(2**63 - 1, "int64"), (2**63, "uint64"), (UNSIGNED, "uint64")]:
             down = range(large, large - 3, -1)
             for keys in ([large, 0], [0, large], [5, large, 7], (1, 2, large), down, {large: 0, 1: 0}):

@@ -1,4 +1,4 @@
-"""Each method with each kind of keys at its limits: in the process, over TCP and on a cluster, by exact numbers."""
+"""Each method with each type of keys at its limits: in the process, over TCP and on a cluster, with exact results."""
 
 import contextlib
 import fractions
@@ -123,7 +123,7 @@ class OfKinds:
 
     def test_changes(self):
         for kind in self.kinds:
-            # (rows get keys that other partitions would have)
+            # one partition, since rows get keys from everywhere
             with self.filled(kind, partitions=1) as (table, model):
                 for key, payload in zip(kind.keys, kind.payloads):
                     model.put([table.insert(key, payload)], [key], [payload])

@@ -1,4 +1,4 @@
-"""Layouts: what is read of a server's reply, and how it is drawn."""
+"""Layouts: how they are read from a server's reply, and how they are drawn."""
 
 import re
 import unittest
@@ -8,7 +8,7 @@ from ways import crackd, np, wants_numpy
 
 from crackd.arrays import SIGN, TOP
 from crackd.keys import Keys
-from crackd.layout import COLOURS, Layout, PartLayout, Piece, keys_text
+from crackd.layout import Layout, PartLayout, Piece, keys_text
 
 REPLY = [
     "layout 3 rows 11 column 12 out 2 in 1 cells 100 free 87 pieces 3",
@@ -115,7 +115,7 @@ class Images(unittest.TestCase):
     def test_pieces_stand_beside_each_other_by_their_rows(self):
         layout = Layout((part([10, 30, 0], pending_in=20), part([30], partition=1)))
         first, second, third, pending, other, last = self.rectangles(layout)
-        # (60 rows, the most of a partition, take all of the 762 pixels beside the numbers)
+        # 60 rows, the most of a partition, take all of the 762 pixels beside the numbers
         self.assertEqual([it[0] for it in (first, second, third, pending)], [130, 257, 638, 638])
         self.assertEqual([it[2] for it in (first, second, third, pending)], [127, 381, 0, 254])
         self.assertEqual((other[0], other[2], last[0], last[2]), (130, 381, 511, 0))
@@ -144,23 +144,6 @@ class Images(unittest.TestCase):
             self.assertEqual(texts[-3:], ["a piece", "the next piece", "not merged yet"])
             page = dict(root.find("{http://www.w3.org/2000/svg}rect").attrib)
             self.assertEqual(page, {"class": "crackd-page", "width": "900", "height": root.attrib["height"]})
-
-    def test_texts_are_legible_on_light_and_dark_pages(self):
-        def light(colour):
-            red, green, blue = (int(colour[at : at + 2], 16) / 255 for at in (1, 3, 5))
-            return sum(share * it**2.2 for share, it in ((0.2126, red), (0.7152, green), (0.0722, blue)))
-
-        def contrast(one, other):
-            dark, bright = sorted([light(one), light(other)])
-            return (bright + 0.05) / (dark + 0.05)
-
-        style = Layout((part([1]),)).svg().partition("<style>")[2].partition("</style>")[0]
-        for styles, at in zip(style.split("@media (prefers-color-scheme: dark)"), (0, 1)):
-            colours = dict(re.findall(r"\.crackd-(\w+)\{fill:(#\w{6})\}", styles))
-            self.assertEqual(colours, {name: them[at] for name, them in COLOURS.items()})
-            self.assertGreater(contrast(colours["text"], colours["page"]), 7)
-            for one, other in (("even", "odd"), ("even", "page"), ("pending", "page")):
-                self.assertGreater(contrast(colours[one], colours[other]), 1.5)
 
 
 if __name__ == "__main__":

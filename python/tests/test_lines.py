@@ -1,5 +1,5 @@
-"""Files of rows: blank lines, headers, infinities and the limits of numbers, each where it can stand, and what is
-merged after a load."""
+"""CSV files: blank lines, headers, infinities and the limits of numbers, wherever they may be, and what is merged after
+a load."""
 
 import itertools
 import math

@@ -1,4 +1,4 @@
-"""Tables that are made of arrays: what `insert_many` gives for the same rows, whichever are refused."""
+"""Tables made of arrays have what `insert_many` gives for the same rows, whichever rows are refused."""
 
 import ctypes
 import itertools
@@ -72,7 +72,7 @@ class Loads(InShards, unittest.TestCase):
                     found = self.told(crackd.Table.from_arrays, keys, payloads, **options, cells=cells, **how)
                 self.assertEqual(found, wanted)
                 kinds.add(wanted and (wanted[0], wanted[2] > 0))
-        # (nothing is refused, rows of one shard alone are, and rows of others are done later)
+        # nothing is refused; rows are refused, and no later rows are done; rows are refused, and later rows are done
         self.assertEqual(kinds, {None, (9, False), (9, True)})
 
     def told(self, call, *words, **options):

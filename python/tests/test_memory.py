@@ -1,10 +1,11 @@
-"""Tables in the process that are refused memory, and what frees that of their histories."""
+"""Tables in the process that are refused memory, and what frees the memory of their histories."""
 
 import os
 import pathlib
 import subprocess
 import sys
 import tempfile
+import threading
 import unittest
 from unittest import mock
 
@@ -13,8 +14,8 @@ from ways import crackd, refusing, wants_gcc, wants_library, wants_numpy
 from crackd import library
 
 HERE = pathlib.Path(__file__).resolve().parent
-# fills memory with a table and then with blocks, and prints how many rows were placed, what `len` says where a count is
-# refused, and how many rows the count finds once there is memory again
+# fills memory with a table and then with blocks, and prints how many rows were inserted, what `len` returns while a
+# count is refused, and how many rows a count finds once there is memory again
 FILL = """
 import resource
 from ways import crackd
@@ -50,7 +51,7 @@ def resident():
 
 
 STEPS, ONE_IN, STEPS_IN_TURN, SECONDS = 100_000, 25, 40, 600
-# (a child looks for no program, and reports none that isn't proved)
+# so that a child neither searches for the program nor reports that it isn't proved
 ENVIRONMENT = {**os.environ, "CRACKD": os.devnull}
 
 
@@ -100,7 +101,7 @@ class Lengths(unittest.TestCase):
 
     def test_the_length_after_memory_ran_out(self):
         for trim in ("131072", "65536"):
-            # (the second is what Dask sets; there the row numbers are joined without memory to spare)
+            # Dask sets the second threshold; with it the row numbers must be computed without further memory
             environment = {**ENVIRONMENT, "MALLOC_TRIM_THRESHOLD_": trim}
             how = {"cwd": HERE, "env": environment, "capture_output": True, "text": True, "timeout": SECONDS}
             with self.subTest(trim):
@@ -137,6 +138,34 @@ class Kept(unittest.TestCase):
             before = resident()
             call(200_000)
             self.assertLess(resident() - before, 5_000_000)
+
+    @wants_numpy
+    def test_a_million_calls_of_four_threads(self):
+        with crackd.Table(splits=[1000, 2000, 3000], shards=4, history=1000) as table:
+
+            def call(at, rounds):
+                """Five calls in each round, of which some meet two shards."""
+                for it in range(rounds):
+                    key = at * 1000 + it % 1000
+                    row = table.insert(key, 5)
+                    table.update(row, key, 7), table.count(key, key + 5), table.sum(key - 5, key)
+                    if it % 100 == 0:
+                        table.delete_many(table.insert_many([key, 5, 1500, 2500] * 12, range(48)))
+                    gone[at] += table.delete(row)
+
+            def call_together(rounds):
+                threads = [threading.Thread(target=call, args=(at, rounds)) for at in range(4)]
+                for it in threads:
+                    it.start()
+                for it in threads:
+                    it.join()
+
+            gone = [0] * 4
+            call_together(2500)
+            before = resident()
+            call_together(50_000)
+            self.assertLess(resident() - before, 5_000_000)
+            self.assertEqual((gone, table.count()), ([52_500] * 4, 0))
 
 
 @wants_library

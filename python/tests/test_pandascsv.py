@@ -1,4 +1,4 @@
-"""Files as pandas reads them: the cases of files again, and field by field what is read without it."""
+"""CSV files that pandas reads: the cases of test_files.py again, and each field as it is read without pandas."""
 
 import array
 import contextlib
@@ -30,7 +30,7 @@ DATES = ["2020-01-02", "2020-1-2", "2020-01-02 ", " 2020-01-02", "20200102", "20
 DATES += ["9999-12-31", "2020-01-02T03", "", "nan", "NaT", "now", '"2020-01-02"', "2020-01-0x", "2020/01/02"]
 AROUND = ["1,2\n", "1,2\r\n", "1,2\r", "\n", "\r\n", "", "key,payload\n", "1\n", "1,2,3\n", "x,2\n", "1,y\n", " \n"]
 AROUND += [",\n", "#1,2\n", "1.0,2\n"]
-# the beginnings of files, with and without headers, and what is no text
+# the beginnings of files, with and without headers, and bytes that aren't text
 HEADS = ["key,payload\n1,2\n3,4\n", "1,2\n3,4", '"key",payload\r\n1,"2"\r\n', '"k\ney",p\n1,2\n', "\n1,2\n"]
 CODES = [b"\xef\xbb\xbf1,2\n", b"1,2\n\xff,4\n", b"1,2,\xff\n3,4,x\n", b"1,2,\xc3\xa9\n3,4,x\n", b"1,2\0\n3\n"]
 

@@ -1,5 +1,5 @@
-"""Servers whose program is a script of the tests: one that doesn't end, that finds its port taken, or is refused.
-Libraries that aren't crackd's."""
+"""Servers whose program is a script of the tests: one that doesn't end, that finds its port taken, or that is refused.
+Also files that aren't crackd's library."""
 
 import ctypes.util
 import os
@@ -23,7 +23,7 @@ class Libraries(unittest.TestCase):
     """Files that stand in for the library."""
 
     def test_one_that_cannot_be_loaded(self):
-        # (one is missing, one is no library, and one has other functions)
+        # a file that doesn't exist, one that isn't a library, and a library with other functions
         for path in filter(None, ("missing/libcrackd.so", "/dev/null", ctypes.util.find_library("c"))):
             forgotten = mock.patch.object(crackd.library, "_loaded", None)
             with self.subTest(path), forgotten, mock.patch.dict(os.environ, {"CRACKD_LIBRARY": path}):
@@ -63,7 +63,7 @@ class Programs(unittest.TestCase):
         served.close()
 
     def test_a_port_that_is_taken(self):
-        # (the third try succeeds)
+        # the third try succeeds
         text = self.COUNTED + 'if len(open(here + "/starts").read()) < 3: sys.exit("refused 17: the port is taken")\n'
         with crackd.serve(program=self.program(text + READY + "sys.stdin.read()\n")) as served:
             self.assertIsNone(served._process.poll())
@@ -182,7 +182,7 @@ class Openings(unittest.TestCase):
             for limit in (0, -1, most + 1, 2**64, 2**64 + 5, -(2**64) + 5):
                 with self.subTest(name, limit=limit):
                     self.assertRaises(crackd.BadLimit, crackd.Table, **{name: limit})
-                    # (its program refuses what can't be read as a limit, without a number)
+                    # a server's program refuses a limit that it can't read without giving the number of a refusal
                     self.assertRaises((crackd.BadLimit, crackd.NoServer), crackd.serve, **{name: limit})
             for limit in (1, most):
                 with self.subTest(name, limit=limit), crackd.Table(**{name: limit}) as table:

@@ -248,7 +248,7 @@ class Questions:
             self.assertEqual((error.code, error.done, len(error.answers)), (9, 5, 5 + error.later))
             wanted = [(1, 0), (200, 1), (2, 2), (3, 3), (4, 4)]
             self.assertEqual([table.get(it) for it in numbers(error.answers)][:5], wanted)
-        # (a row after the refused one is placed over TCP, and in another shard)
+        # over TCP, and in another shard, a row after the refused one is inserted
         with self.table(splits=[100], cells=4) as table, mock.patch("crackd.progress.STEP", 3):
             with self.assertRaises(crackd.Full) as caught:
                 table.insert_rows([1, 2, 3, 4, 5, 200, 6], range(7), progress=lambda *_: None)
@@ -350,7 +350,7 @@ class Together:
 
         def selected_then(*words):
             found = select(*words)
-            # (it waits until the rows are deleted; if it didn't, it would save one)
+            # the update waits until the rows are deleted; otherwise it would keep its row from being deleted
             thread.start()
             thread.join(0.3)
             return found
@@ -515,7 +515,7 @@ class OverAsyncioFiles(Files, OverAsyncio, unittest.TestCase):
     """Over TCP, by asyncio."""
 
     kinds = OverTcpQuestions.kinds
-    # (the table is no one that `load` can wait for)
+    # `load` can't await the methods of this table
     test_a_load_into_a_table = None
 
 

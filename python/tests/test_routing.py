@@ -1,4 +1,4 @@
-"""What a table makes of the answers of many shards that it asks for everything, as one on a cluster does."""
+"""How a table combines the answers of many shards if it asks them about everything, as a table on a cluster does."""
 
 import itertools
 import random
@@ -72,7 +72,7 @@ class Refused(unittest.TestCase):
         """Which of the keys find room."""
         rows, has_room = {}, []
         for key in keys:
-            # (a shard stops at its first refusal)
+            # a shard stops at its first refusal
             rows.setdefault(key // 10, 0)
             has_room.append(rows[key // 10] < cells)
             rows[key // 10] += 1
@@ -118,7 +118,7 @@ class Refused(unittest.TestCase):
             with self.subTest(shards=shards, cells=cells, step=step), self.opened(shards, cells) as table:
                 told, rows, is_done = [], {}, []
                 for at in range(0, len(keys), step):
-                    # (each shard stops at its first refusal in these rows, and then all do)
+                    # each shard stops at its first refusal in these rows, and no later rows are sent
                     for key in keys[at : at + step]:
                         rows[key // 10] = rows.get(key // 10, 0) + 1
                         is_done.append(rows[key // 10] <= cells)
@@ -142,14 +142,14 @@ class Refused(unittest.TestCase):
                 error = caught.exception
                 self.assertEqual((error.code, error.done, error.row, len(error.answers)), (9, 0, (5, 50), 1))
                 self.assertEqual((table.get(row), table.get(error.answers[0]), len(table)), (None, (5, 50), 4))
-                # (then neither shard takes the row)
+                # now neither shard accepts the row
                 row, insert = int(error.answers[0]), LocalShard.insert_many
                 with mock.patch.object(LocalShard, "insert_many", side_effect=crackd.OutOfMemory(8)):
                     with self.assertRaises(crackd.OutOfMemory) as caught:
                         table.move(row, 15)
                 error = caught.exception
                 self.assertEqual((error.row, len(error.answers), len(table)), ((5, 50), 0, 3))
-                # (a handler's error, before the row is placed and after it)
+                # the error of a signal handler, before and after the row is inserted
                 row = table.insert(5, 50)
 
                 def stopped(*words):
@@ -227,7 +227,7 @@ class Lost(unittest.TestCase):
                         call()
                     found.append(caught.exception)
                 self.assertEqual([it.shard for it in found], [min(lost)] * 2)
-                # (each call has an error of its own)
+                # each call has an error of its own
                 self.assertIsNot(*found)
             table.close()
 

@@ -64,7 +64,7 @@ class Connections(unittest.TestCase):
             self.assertRaises(crackd.Closed, table.count)
 
     def test_a_checkpoint_that_is_refused(self):
-        # (the refused statement is sent again right after the checkpoints)
+        # the refused statement is sent again right after the checkpoints
         refused = b"refused 8\n" + b"refused 5\n" * 63 + b"refused 6 2\n"
         with answered(b"row 0.0\nrefused 6 2\nrow 1.0\n" + refused) as port:
             table = crackd.connect(port=port)

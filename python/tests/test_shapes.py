@@ -1,4 +1,4 @@
-"""Arrays of each shape, and tables of each number of shards: what a plain list gives is wanted."""
+"""Arrays of each shape, and tables with each number of shards, compared with plain lists."""
 
 import array
 import contextlib
@@ -6,7 +6,7 @@ import itertools
 import random
 import unittest
 
-from ways import InProcess, InShards, crackd, np, wants_library, wants_numpy, wants_shards
+from ways import InProcess, InShards, OverTcp, crackd, np, wants_library, wants_numpy, wants_program, wants_shards
 
 from crackd import routing
 
@@ -162,6 +162,12 @@ class FewItemsShapes(Shapes, InShards, unittest.TestCase):
     AT_ONCE = False
 
 
+@wants_library
+@wants_program
+class OverTcpShapes(Shapes, OverTcp, unittest.TestCase):
+    """Over TCP."""
+
+
 @wants_shards
 class ManyShards(unittest.TestCase):
     """Tables with more and more shards, against plain lists."""
@@ -263,7 +269,7 @@ class ManyShards(unittest.TestCase):
                 self.assertEqual(numbers(table.select().payloads), [each for it in payloads for each in it])
                 self.assertEqual(numbers(table.update_many(rows, keys, [-it for it in keys])), [1] * len(rows))
                 self.assertEqual(table.sum(), -sum(keys))
-                # (the rows of each other key)
+                # the rows with odd keys
                 gone = [row for row, key in zip(rows, keys) if key % 2]
                 self.assertEqual(numbers(table.delete_many(gone)), [1] * len(gone))
                 self.assertEqual(numbers(table.count_by(range(shards + 1))), [2 - it % 2 * 2 for it in range(shards)])
@@ -276,7 +282,7 @@ class ManyShards(unittest.TestCase):
                     each = [len(it.cuts) + 1 for it in table._shards]
                     self.assertEqual((sum(each), max(each) - min(each) <= 1), (partitions, True))
                     rows = numbers(table.insert_many(range(partitions), range(partitions)))
-                    # (the shard of each key, and its partition there)
+                    # the shard of each key, and its partition in that shard
                     wanted = [(it, part) for it, size in enumerate(each) for part in range(size)]
                     self.assertEqual([(it >> 54, it >> 48 & 63) for it in rows], wanted)
                     self.assertEqual([it.rows for it in table.layout().parts], [1] * partitions)

@@ -1,4 +1,4 @@
-"""A shard and what a cluster's table makes of the answers of several, without a cluster."""
+"""A shard, and how a cluster's table combines the answers of several shards, without a cluster."""
 
 import os
 import pathlib
@@ -129,7 +129,7 @@ class FirstErrors(unittest.TestCase):
             found = self.first(errors)
             self.assertIsInstance(found, cluster.ShardLost)
             self.assertEqual((found.low, found.high, found.why), (None, 5, LOST))
-            # (each call raises its own)
+            # each call raises an error of its own
             self.assertNotIn(found, list(errors.values()))
         found = self.first({3: self.lost(3), 1: self.lost(1), 2: self.lost(2), 0: full})
         self.assertEqual(found.shard, 1)
@@ -149,7 +149,7 @@ class FirstErrors(unittest.TestCase):
         self.assertEqual((found.code, found.done, found.later, found.answers), (9, 2, 2, "rows"))
         found = crackd.routing.error_of({**errors, 2: self.lost(2), 1: self.lost(1)}, shards, is_done, "rows")
         self.assertEqual((type(found), found.shard, found.answers), (cluster.ShardLost, 1, "rows"))
-        # (an interrupted call may have done all rows)
+        # an interrupted call may have done all rows
         stop = KeyError("a handler's")
         for done in (is_done, np.ones(6, bool)):
             found = crackd.routing.error_of({**errors, 2: stop}, shards, done, "rows")
@@ -167,12 +167,12 @@ class LostShards(unittest.TestCase):
         table, asked = cluster.Table.__new__(cluster.Table), []
         lost = cluster.ShardLost(1, 5, None, "keys from 5", LOST)
         table._lock, table._futures, table._tokens = threading.RLock(), [object()], ["first", "second"]
-        table._lost = {1: lost}
-        table._start = lambda shard, *_: asked.append(shard) or shard
-        table._result = lambda shard, _: (table._tokens[shard], 7)
+        table._lost, table._actors = {1: lost}, ["an actor", "another"]
+        table._start = lambda shard, actor, *_: asked.append((shard, actor)) or shard
+        table._result = lambda shard, *_: (table._tokens[shard], 7)
         cuts = {0: crackd.routing.Cut(()), 1: crackd.routing.Cut(())}
         self.assertEqual(table._ask(cuts, "begin"), ({0: 7}, {1: lost}))
-        self.assertEqual(asked, [0])
+        self.assertEqual(asked, [(0, "an actor")])
         with self.assertRaises(cluster.ShardLost) as caught:
             table._all(cuts, "begin")
         self.assertEqual((caught.exception.shard, caught.exception is lost), (1, False))
@@ -202,7 +202,7 @@ class Ranges(unittest.TestCase):
             table = self.table({it: np.array(found) for it, found in answers.items()}, {})
             found = getattr(table, call)(self.FIRSTS, self.LASTS)
             self.assertEqual(numbers(found), [1, 0, 12, 120, 200])
-            # (a shard is asked for all keys on a side where the range ends in another)
+            # if an end of the range is in another shard, a shard is asked for all its keys on that side
             wanted = {0: [[0, 5], [9, LAST]], 1: [[0, 12], [15, LAST]], 2: [[0, 25], [29, 26]]}
             self.assertEqual(table.asked, wanted)
 
@@ -226,9 +226,15 @@ class Parts(unittest.TestCase):
         self.assertEqual(crackd.routing.shard_of(cuts[:0], keys).tolist(), [0] * 9)
         many = np.arange(1, 40, dtype=np.uint64)
         self.assertEqual(crackd.routing.shard_of(many, keys[:6]).tolist(), [0, 1, 4, 5, 6, 39])
+        for count in (14, 15, 16, 17, 62, 63, 64, 65, 300):
+            cuts, keys = np.arange(10, 10 * count + 1, 10, np.uint64), np.arange(10 * count + 20, dtype=np.uint64)
+            for few in ((), (crackd.routing.FEW_PARTS,)):
+                self.assertEqual(crackd.routing.shard_of(cuts, keys, *few).tolist(), [
+                    min(it // 10, count) for it in keys.tolist()
+                ])
 
     def test_blocks_keep_the_order_of_rows(self):
-        # (numbers of shards that differ by 256, or that fall if they are cut to 8 bits)
+        # shard numbers that differ by 256, or whose order changes if they are cut to 8 bits
         far = [[256, 1, 257, 0, 512, 255, 256, 1], [it * 389 % 1024 for it in range(3000)]]
         near = [[it * 7919 % 3 for it in range(5000)], *([it * 7 % most for it in range(99)] for most in (16, 17))]
         for shards in ([], [3], [0, 0, 0], [5, 0, 5, 1, 0, 5], [1023, 0, 1023], *near, *far):

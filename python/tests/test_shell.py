@@ -1,4 +1,4 @@
-"""What the shell makes of a statement before it sends it, of names of files, and of what it has loaded."""
+"""How the shell changes a statement before it sends it, treats names of files, and reports what it has loaded."""
 
 import contextlib
 import io

@@ -90,7 +90,7 @@ class Replacing(InARoom):
     def test_a_pipe_is_written_and_not_replaced(self):
         pipe, got = self.room / "pipe", []
         os.mkfifo(pipe)
-        # (open for both, so that neither side waits)
+        # opened for reading and writing, so that neither side waits for the other
         end = os.open(pipe, os.O_RDWR | os.O_NONBLOCK)
         try:
             _, out, errors = self.run_lines(f".save {pipe}")
@@ -241,7 +241,7 @@ class Reading(InARoom):
                 )
                 self.assertIn(f"shell: interrupted: {path} was read up to its line {number}\n", errors)
                 self.assertNotIn("count 2 3", self.channel.sent)
-                # (a person goes on, but a filter ends)
+                # an interactive shell goes on, but a filter ends
                 self.assertEqual("count 8 9" in self.channel.sent, is_terminal)
                 self.assertEqual(shell.files, [])
                 self.assertTrue(is_terminal or shell.faults)

@@ -1,4 +1,4 @@
-"""What the shell sends, and what it makes of the replies, over a stand-in for the connection."""
+"""What the shell sends, and how it reads and shows the replies, over a stand-in for the connection."""
 
 import contextlib
 import io
@@ -176,7 +176,7 @@ class Loads(unittest.TestCase):
                     self.assertEqual(channel.sent, [f"insert {it} {-it}" for it in range(rows)])
                     self.assertEqual((loaded.sent, loaded.answered, loaded.placed), (rows, rows, rows))
                     self.assertEqual((loaded.refusal, loaded.before), ("", 0))
-                    # (at most 3 are unanswered as it goes on, and 2 more are then sent)
+                    # it goes on while at most 3 rows are unanswered, and then sends 2 more
                     self.assertLessEqual(channel.most, 5)
                     if rows == 9 and at_once and not header:
                         told = [it.args[0] for it in progress.show.call_args_list]
@@ -201,7 +201,7 @@ class Loads(unittest.TestCase):
         for place in range(6):
             answer = lambda line: ["refused 9"] if line == f"insert {place} {-place}" else ["row 0.0"]
             channel, loaded, _ = self.load(6, answer)
-            # (up to 3 may be unanswered as it goes on, so two blocks of 2 are sent before any answer is looked at)
+            # it goes on while at most 3 rows are unanswered, so it sends two blocks of 2 before it reads any reply
             sent = 4 if place < 4 else 6
             self.assertEqual((len(channel.sent), loaded.sent, loaded.answered), (sent, sent, sent))
             self.assertEqual((loaded.refusal, loaded.before, loaded.placed), ("refused 9", place, sent - 1))
@@ -319,6 +319,13 @@ class Shown(unittest.TestCase):
             (text,) = modes.shown(lines, "json", None)
             self.assertEqual(json.loads(text), value)
 
+    def test_numbers_in_each_mode(self):
+        lines = ["stats 2", "rows 5", f"cells {2**64 - 1}"]
+        self.assertEqual(modes.shown(lines, "lines", 1), lines)
+        self.assertEqual(modes.shown(lines, "csv", 1), ["name,number", "rows,5", f"cells,{2**64 - 1}"])
+        told = {"stats": {"rows": 5, "cells": 2**64 - 1}}
+        self.assertEqual(json.loads(modes.shown(lines, "json", 1)[0]), told)
+
     def test_layouts_in_each_mode(self):
         for most in (None, 0, 1):
             self.assertEqual(modes.shown(self.LAYOUT, "lines", most), self.LAYOUT)
@@ -351,7 +358,7 @@ class Shown(unittest.TestCase):
     def test_completions(self):
         for line, wanted in {
             "se": ["select "],
-            "s": ["sum ", "select "],
+            "s": ["sum ", "select ", "stats "],
             "  up": ["update "],
             ".l": [".load ", ".layout ", ".limit "],
             "policy g": ["gradual "],

@@ -1,4 +1,4 @@
-"""Splits of a file's keys, and quantiles: by all keys where a file is read, and by a sample elsewhere."""
+"""Splits of a file's keys, and quantiles: of all keys if a file is read, and of a sample elsewhere."""
 
 import contextlib
 import io
@@ -63,7 +63,7 @@ class Program(unittest.TestCase):
                     self.assertIn(f"usage: {name} {command}", self.run_program(command, "--help")[1])
 
     def test_all_keys_of_a_file_count(self):
-        # (each other key is large, so that a sample of every second one would see none of these)
+        # every second key is large, so that a sample of every second key might have none of them
         with tempfile.TemporaryDirectory() as room:
             path = pathlib.Path(room) / "rows.csv"
             path.write_text("".join(f"{it % 2 * 10**6 + it},1\n" for it in range(40_000)), encoding="utf-8")

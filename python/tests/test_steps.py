@@ -40,7 +40,7 @@ class Held(unittest.TestCase):
 
             def noting(real):
                 def call(shard, *words):
-                    # (before the call itself holds its shard)
+                    # recorded before the call itself takes its shard's lock
                     held.append([it.is_asking for it in table._shards] if table is not None else None)
                     return real(shard, *words)
 
@@ -61,7 +61,7 @@ class Held(unittest.TestCase):
                 ]:
                     held.clear()
                     self.assertEqual(call(), wanted)
-                    # (of another table that is filled meanwhile nothing is held)
+                    # another table that is filled meanwhile isn't locked
                     own = [it for it in held if it is not None and any(it)]
                     self.assertGreaterEqual(len(own), 1 if shards == 1 else 2)
                     self.assertEqual([it for it in own if not all(it)], [])
@@ -81,18 +81,18 @@ class Moments(unittest.TestCase):
                 def coming(real, *words):
                     found = real(*words)
                     if not threads:
-                        # (it waits until the call ends; if it didn't, the row would be missing)
+                        # the move waits until the call ends; otherwise the row would be missing
                         threads.append(threading.Thread(target=table.move, args=(row, 5)))
                         threads[0].start()
                         threads[0].join(0.1)
                     waits.append(threads[0].is_alive())
                     return found
 
-                # (each partition's answer is looked at by `_check`, before the next one is asked)
+                # `_check` gets each partition's status before the next partition is asked
                 with mock.patch.object(shard, "_check", functools.partial(coming, shard._check)):
                     found = called()
                 threads[0].join()
-                # (a layout asks each partition twice; `repr` looks at the memory later, at another moment)
+                # a layout asks each partition twice; `repr` looks at the memory later, at another moment
                 looks = 8 if name == "layout" else 4
                 self.assertEqual(waits[:looks], [True] * looks)
                 rows = found.rows if name == "layout" else found
@@ -370,7 +370,7 @@ class Defaults(unittest.TestCase):
                     steps = range(0, len(rows.rows), size)
                     for one, many in zip(zip(*chunks), rows):
                         self.assertEqual([it.tolist() for it in one], [many[at : at + size].tolist() for at in steps])
-                        # (they are views)
+                        # the chunks are views
                         self.assertTrue(all(np.shares_memory(it, many) for it in one))
 
 

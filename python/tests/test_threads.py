@@ -125,7 +125,7 @@ class SharingInProcess(Sharing, InProcess, unittest.TestCase):
                 return updates / inserts, seconds(table.delete, rows) / inserts
 
         keys = range(5000)
-        # (on a quiet machine each takes 0.7 to 1.1 times as long)
+        # on a quiet machine each takes 0.7 to 1.1 times as long
         least = [min(it) for it in zip(*[times() for _ in range(7)])]
         self.assertLess(max(least), 2)
 

@@ -9,7 +9,7 @@ import unittest
 
 from ways import crackd, standing_in, wants_program
 
-# a timeout that a test waits for, a pause that is shorter, and the most that a wait may take
+# in seconds: a timeout that a test waits for, a shorter pause, and the longest that a wait may take
 SOON, PAUSE, MOST = 2, 0.3, 120
 
 
@@ -36,7 +36,7 @@ class Silence(unittest.TestCase):
         with socket.socket() as listening, socket.socket() as one, socket.socket() as other:
             listening.bind(("127.0.0.1", 0))
             listening.listen(0)
-            # (these fill the queue)
+            # these fill the queue of connections that wait to be accepted
             for it in (one, other):
                 it.setblocking(False)
                 it.connect_ex(listening.getsockname())
@@ -71,7 +71,7 @@ class Silence(unittest.TestCase):
 
         with standing_in(play) as port:
             table = crackd.connect(port=port, timeout=SOON)
-            # (nobody waits for it meanwhile)
+            # no call waits for the server meanwhile
             time.sleep(SOON + PAUSE)
             self.assertEqual(table.count(), 7)
             table.close()
@@ -103,7 +103,7 @@ class Servers(unittest.TestCase):
             self.assertIsNone(table.ping())
             table.insert_many([1, 50], [1, 2])
             self.assertIsNone(table.ping())
-            # (it leaves the policy of the session as it is)
+            # `ping` doesn't change the session's policy
             self.assertEqual((table.count(0, 9), table.layout().parts[0].pending_in), (1, 0))
         with self.assertRaisesRegex(crackd.Disconnected, "connect again"):
             table.ping()

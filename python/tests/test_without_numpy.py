@@ -1,4 +1,4 @@
-"""The same cases where numpy isn't installed: in an interpreter of their own that doesn't find it."""
+"""The same cases without numpy, in a separate interpreter that doesn't find it."""
 
 import array
 import datetime
@@ -12,7 +12,7 @@ import unittest
 from ways import InProcess, OverTcp, crackd, has_program, np, wants_library
 
 SECONDS = 600
-# those that don't ask for numpy, and take moments
+# the cases that don't need numpy and take little time
 CASES = ["test_keys.InProcessArguments", "test_keys.Kinds", "test_keys.Options", "test_ends.InProcessNumbers"]
 CASES += ["test_kinds.InProcessKinds", "test_table.InProcessCases", "test_calls.Between", "test_layouts"]
 CASES += ["test_questions.InProcessQuestions", "test_questions.InProcessFiles"]
@@ -85,7 +85,7 @@ class Returned:
             self.assertTrue(table.update(rows[3], 7, 100))
             with self.assertRaises(crackd.WrongPartition) as caught:
                 table.update_many([rows[1], rows[3], rows[0]], [5, 15, 25], [3, 3, 3])
-            # (over TCP the row after it is updated as well)
+            # over TCP the row after it is updated as well
             self.assertEqual((caught.exception.done, table.sum()), (1, 104 + 2 * caught.exception.later))
             self.assertEqual(table.move(rows[0], 19), 1 << 48 | 1)
 

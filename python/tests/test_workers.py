@@ -1,4 +1,4 @@
-"""What runs on the workers of a cluster, without one: columns, samples and files, and arrays as they come."""
+"""The code that runs on a cluster's workers, without a cluster: columns, samples, files, and arrays as they arrive."""
 
 import copy
 import os
@@ -180,7 +180,7 @@ class Waiting(unittest.TestCase):
         late, gone = TimeoutError(), lambda: False
         self.assertEqual(crackd.shard.waited(self.future(7), gone), 7)
         self.assertEqual(crackd.shard.waited(self.future(late, late, late, 7), lambda: True), 7)
-        # (it came before its shard was gone)
+        # the answer came before its shard was gone
         self.assertEqual(crackd.shard.waited(self.future(late, 7), gone), 7)
         self.assertRaises(KeyError, crackd.shard.waited, self.future(KeyError(5)), gone)
         self.assertRaises(KeyError, crackd.shard.waited, self.future(late, KeyError(5)), gone)
@@ -266,8 +266,8 @@ class Described(unittest.TestCase):
     """What a table of several shards says of itself."""
 
     def test_shards_and_memory(self):
-        # (about half a megabyte for each partition that has rows)
-        for shards, partitions, size in [(1, 1, 0.5), (2, 2, 0.9), (3, 6, 2.8)]:
+        # about a third of a megabyte for each partition that has rows
+        for shards, partitions, size in [(1, 1, 0.3), (2, 2, 0.6), (3, 6, 1.9)]:
             splits = range(10, 10 * partitions, 10)
             with crackd.Table(splits=splits, shards=shards, key_type="int64") as table:
                 said = f"{partitions} partition{'s' if partitions > 1 else ''}, policy auto, memory about "

@@ -1,4 +1,4 @@
-"""The ways to reach a table with which the cases are run, and why one isn't available here."""
+"""The ways to reach a table over which the cases are run, and why a way isn't available here."""
 
 import asyncio
 import contextlib

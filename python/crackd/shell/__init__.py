@@ -1,4 +1,4 @@
-"""A shell over `crackd serve`, for a person or as a filter: python3 -m crackd shell."""
+"""A shell for `crackd serve`, interactive or as a filter: python3 -m crackd shell."""
 
 from .console import main
 

@@ -1,4 +1,4 @@
-"""How the shell connects to a server, its own or another, and what a control-C does meanwhile."""
+"""The shell's own server, its connection to a server, and the handling of control-C."""
 
 import contextlib
 import signal
@@ -13,7 +13,7 @@ SECONDS_OF_AN_END = 60
 
 
 class Interrupts:
-    """Notes a control-C, so that what is running ends in order. A second one ends the shell at once."""
+    """Notes a control-C, so that the running statement or command ends in order. A second one ends the shell."""
 
     def __init__(self) -> None:
         self.noted, self.is_told = 0, False
@@ -28,13 +28,13 @@ class Interrupts:
         self.noted, self.is_told = 0, False
 
     def check(self, left_undone: str) -> None:
-        """Ends what is running if a control-C was noted."""
+        """Raises `Interrupted` if a control-C was noted."""
         if self.noted:
             raise Interrupted(left_undone)
 
     @contextlib.contextmanager
     def breaking_in(self) -> Iterator[None]:
-        """While a person, a file or a program is waited for, the first control-C ends the waiting."""
+        """A context that waits for a person, a file or a program, and in which the first control-C ends the wait."""
         try:
             signal.signal(signal.SIGINT, signal.default_int_handler)
             yield
@@ -42,14 +42,14 @@ class Interrupts:
             signal.signal(signal.SIGINT, self.note)
 
     def tell_once(self) -> None:
-        """Says once that an answer is still missing."""
+        """Reports, once after a control-C, that the server hasn't answered yet."""
         if self.noted and not self.is_told:
             self.is_told = True
             complain("the server hasn't answered yet; control-C again ends the session")
 
 
 class Server:
-    """The shell's own server, for one session. It is in a session of its own, so that no control-C reaches it."""
+    """The shell's own server, for one connection. Its process has a session of its own, which no control-C reaches."""
 
     def __init__(self, program: str, words: Sequence[str]):
         self.program = program
@@ -59,13 +59,13 @@ class Server:
             if self.has_begun():
                 return
             complaint = self.process.communicate()[1].strip()
-            # (another program may have taken the port in the meantime)
+            # another program may have taken the port meanwhile: try another one
             if complaint != "crackd: refused 17":
                 raise Ended(f"no server: {self.end_text(complaint)}")
         raise Ended("no server: no port was free")
 
     def started(self, words: Sequence[str]) -> subprocess.Popen[str]:
-        """The process of a server, as it begins."""
+        """Starts the server's process."""
         command = [
             self.program,
             "serve",
@@ -101,7 +101,7 @@ class Server:
             raise
 
     def end_text(self, complaint: str) -> str:
-        """The last line that the program wrote, in words, or else how it ended."""
+        """The last line that the program wrote to standard error, in words, or else how the program ended."""
         status = self.process.returncode
         if complaint:
             return in_words(complaint.splitlines()[-1].replace("crackd: ", "", 1))
@@ -112,7 +112,7 @@ class Server:
         )
 
     def totals(self) -> str:
-        """The server's last line, once it has ended."""
+        """Waits until the server has ended. Returns its last line."""
         try:
             wrote, complaint = self.process.communicate(timeout=SECONDS_OF_AN_END)
         except subprocess.TimeoutExpired as error:
@@ -122,21 +122,21 @@ class Server:
         return wrote.rstrip("\n")
 
     def why(self) -> str:
-        """Why the server left."""
+        """Why the server closed the connection."""
         try:
             return self.end_text(self.process.communicate(timeout=1)[1])
         except subprocess.TimeoutExpired:
             return "it cut the session off"
 
     def end(self) -> None:
-        """Ends the server if it hasn't ended."""
+        """Kills the server if it hasn't ended."""
         if self.process.poll() is None:
             self.process.kill()
         self.process.communicate()
 
 
 def channel_to(port: int, interrupts: Interrupts) -> Channel:
-    """A connection to the server on a port of this machine."""
+    """Connects to the server on a port of this machine."""
     try:
         return Channel("127.0.0.1", port, interrupts.tell_once)
     except OSError as error:

@@ -1,10 +1,11 @@
-"""A shell over `crackd serve`: python3 -m crackd shell [--program PATH] [--limit N] [--cells N] [--life N] [--policy
+"""A shell for `crackd serve`: python3 -m crackd shell [--program PATH] [--limit N] [--cells N] [--life N] [--policy
 NAME] [SPLIT ..], or python3 -m crackd shell --port N
 
-Without a port it starts its own server, which ends with it. On a terminal it prompts, explains refusals, reports how
-long each statement took, keeps typed lines in a file, and completes words with Tab; `help` lists the statements.
-Without a terminal it is a filter, which answers line by line. The status is 0; it is 1 if there is no server, if the
-server left, or if a filter had a refused statement or a failed command; it is 2 for a bad command line.
+Without a port the shell starts its own server, which ends with it. On a terminal it prompts, explains refusals, reports
+how long each statement took, keeps typed lines in a file, and completes words with Tab; `help` lists the statements.
+Without a terminal it is a filter, which answers line by line. The exit status is 1 if there is no server, if the server
+closed the connection, or if a filter had a refused statement or a failed command. It is 2 for a bad command line, and
+otherwise 0.
 """
 
 import argparse
@@ -34,7 +35,7 @@ SECONDS_OF_A_PROGRESS = 0.1
 
 @contextlib.contextmanager
 def of_file(path: str) -> Iterator[None]:
-    """Work with a file. Its errors are reported with its path."""
+    """A context that works with a file. Its errors become a `Fault` with the path."""
     try:
         yield
     except (OSError, ValueError) as error:
@@ -43,7 +44,7 @@ def of_file(path: str) -> Iterator[None]:
 
 @contextlib.contextmanager
 def replacing(path: str) -> Iterator[IO[str]]:
-    """A file that replaces another once all is written; until then the other stays as it is."""
+    """A context that writes a file. An existing regular file is replaced only at the end of the block."""
     target = os.path.realpath(path)
     if os.path.exists(target) and not os.path.isfile(target):
         with open(target, "w", encoding="ascii") as file:
@@ -61,7 +62,7 @@ def replacing(path: str) -> Iterator[IO[str]]:
 
 
 class Progress:
-    """A line of a terminal that shows progress."""
+    """The line of progress on a terminal."""
 
     def __init__(self, is_shown: bool):
         self.is_shown, self.width, self.next = is_shown, 0, time.monotonic() + SECONDS_OF_A_PROGRESS
@@ -78,16 +79,16 @@ class Progress:
 
 
 class Shell:
-    """Runs lines, and shows the replies."""
+    """Runs lines and shows the replies."""
 
     def __init__(self, session: Session, interrupts: Interrupts, is_terminal: bool):
         self.session, self.interrupts, self.is_terminal = session, interrupts, is_terminal
-        # (faults are refused statements and failed commands)
+        # `faults` counts refused statements and failed commands
         self.answered = self.refused = self.faults = 0
         self.has_ended = self.bails = False
         self.mode = "lines"
         self.most_rows: Optional[int] = None
-        # (those whose lines are running)
+        # the files whose lines are being run
         self.files: list[str] = []
         self.of_files: dict[str, Callable[[str], None]] = {".load": self.load, ".save": self.save, ".read": self.read}
         self.others: dict[str, Callable[[str], None]] = {".layout": self.layout, ".help": self.help, ".quit": self.quit}
@@ -121,7 +122,7 @@ class Shell:
         elif ended(text) == b"help":
             self.help()
         elif name or len(text) > MOST_LINE_BYTES:
-            # (the server answers nothing to a blank line)
+            # the server answers nothing to a blank line
             statement = ended(text) if text.rstrip(b" ").endswith(b";") else text
             self.statement(b"quit" if ended(text) == b"exit" else statement or text)
 
@@ -144,7 +145,7 @@ class Shell:
         complain(text)
 
     def statement(self, statement: bytes) -> None:
-        # (a line at which the server would end the session isn't sent)
+        # a line that looks like HTTP isn't sent, since the server would close the connection
         is_http = HTTP.match(statement[:MOST_LINE_BYTES])
         reply = Reply(["refused 1"], 0.0) if is_http else self.session.ask(with_ends(statement))
         self.answered += 1
@@ -155,8 +156,10 @@ class Shell:
         self.show(reply)
 
     def show(self, reply: Reply) -> None:
-        """Shows a reply in the current mode. On a terminal it also explains a refusal, and shows the time: after a
-        reply of one line, below others."""
+        """Shows a reply in the current mode.
+
+        On a terminal it also explains a refusal and shows the time: after a reply of one line, or below a longer one.
+        """
         lines = modes.shown(reply.lines, self.mode, self.most_rows)
         if not self.is_terminal:
             print("\n".join(lines))
@@ -174,12 +177,12 @@ class Shell:
             )
 
     def say(self, text: str, seconds: float) -> None:
-        """Says what was done, and on a terminal how long it took."""
+        """Prints what was done, and on a terminal how long it took."""
         print(f"{text}  {time_text(seconds)}" if self.is_terminal else text)
 
     @contextlib.contextmanager
     def waiting_for(self, path: str) -> Iterator[None]:
-        """While a file is opened or read, which may wait for another program, a control-C ends that."""
+        """A context that opens or reads a file. That may wait for another program; a control-C ends the wait."""
         try:
             with of_file(path), self.interrupts.breaking_in():
                 yield
@@ -238,7 +241,7 @@ class Shell:
 
     @contextlib.contextmanager
     def within(self, path: str) -> Iterator[None]:
-        """While the lines of a file run."""
+        """A context in which the lines of a file run."""
         self.files.append(os.path.realpath(path))
         try:
             yield
@@ -282,12 +285,12 @@ class Shell:
 
 
 def ended(text: bytes) -> bytes:
-    """A line without spaces around it, and without one ; at its end."""
+    """A line without surrounding spaces, and without a ; at its end."""
     return text.strip(b" ").removesuffix(b";").rstrip(b" ")
 
 
 def with_ends(statement: bytes) -> bytes:
-    """A statement with the number past the greatest key in place of the word `end` of a range."""
+    """A statement in which the number after the greatest key replaces the word `end` of a range."""
     words = statement.split(b" ")
     if ended(statement).split(b" ")[0] not in RANGED:
         return statement
@@ -309,7 +312,7 @@ def typed_lines(interrupts: Interrupts) -> Iterator[bytes]:
             except (EOFError, OSError):
                 print()
                 return
-            # (what is pasted may have several lines)
+            # pasted text may have several lines
             yield from os.fsencode(text).split(b"\n")
 
 
@@ -324,12 +327,15 @@ def given_lines(interrupts: Interrupts) -> Iterator[bytes]:
 
 
 def is_with_a_person() -> bool:
-    """Whether a person types the lines and sees the answers."""
+    """Whether both input and output are a terminal."""
     return sys.stdin.isatty() and sys.stdout.isatty()
 
 
 def talk(port: int, policy: Optional[str], is_known: bool, interrupts: Interrupts) -> bool:
-    """A session with the server at a port, whose policy is known or is set first. Returns whether all was done."""
+    """Runs a session with the server at a port. Returns whether everything was done.
+
+    `policy` is the session's policy if `is_known`; else it is set first, unless it is None.
+    """
     is_terminal = is_with_a_person()
     with contextlib.closing(channel_to(port, interrupts)) as channel:
         session = Session(channel, interrupts, policy if is_known else None)
@@ -343,7 +349,7 @@ def talk(port: int, policy: Optional[str], is_known: bool, interrupts: Interrupt
 
 
 def program_of(path: Optional[str]) -> str:
-    """The path of the program."""
+    """The path of the program. Raises `Ended` if it isn't found."""
     try:
         return find_program(path)
     except NoServer as error:
@@ -351,7 +357,7 @@ def program_of(path: Optional[str]) -> str:
 
 
 def talk_to_own(options: Any, interrupts: Interrupts) -> bool:
-    """A session with the shell's own server. Returns whether all was done."""
+    """Runs a session with the shell's own server. Returns whether everything was done."""
     policy = options.policy or POLICY
     named = {"--limit": options.limit, "--cells": options.cells, "--life": options.life, "--policy": policy}
     words = [word for name, value in named.items() if value for word in (name, value)]
@@ -426,6 +432,6 @@ def main(words: list[str]) -> int:
         signal.signal(signal.SIGINT, signal.SIG_IGN)
         complain("interrupted: the session has ended")
     except BrokenPipeError:
-        # (nobody reads the replies any more)
+        # nobody reads the replies any more
         os.dup2(os.open(os.devnull, os.O_WRONLY), sys.stdout.fileno())
     return 1

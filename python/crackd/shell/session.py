@@ -1,4 +1,4 @@
-"""What the shell asks of a server: a statement and its reply, a load of CSV, a layout, all rows as CSV."""
+"""The shell's session with a server: single statements, loads of CSV, layouts, and saves of all rows as CSV."""
 
 import csv
 import dataclasses
@@ -13,24 +13,24 @@ from ..errors import Disconnected
 from ..layout import PartLayout, rows_text
 from .texts import GREATEST_KEY, GREATEST_PAYLOAD, LEAST_PAYLOAD, Fault, Left, in_words
 
-# of a server that the shell starts, and of a load into one that already ran
+# the default policy of a server that the shell starts, and the policy for a load into a server that already ran
 POLICY = "auto"
 HEADER = ["key", "payload"]
 MOST_DIGITS = 20
 KEY = re.compile(f"[0-9]{{1,{MOST_DIGITS}}}")
 PAYLOAD = re.compile(f"-?{KEY.pattern}")
-# the first lines of replies that have more, and how many more
-LISTED = re.compile("(?:rows|layout .* pieces) ([0-9]+)")
-# how a line of an HTTP request begins, at which a server ends the session: a method, or a header
+# the first line of a reply with several lines, which says how many more there are
+LISTED = re.compile("(?:rows|layout .* pieces|stats) ([0-9]+)")
+# the beginning of a line of an HTTP request (a method or a header), after which a server closes the connection
 HTTP = re.compile(rb" *(?:(?:GET|POST|HEAD|PUT|DELETE|OPTIONS|CONNECT|TRACE|PATCH)(?: |\Z)|[0-9A-Za-z-]+:)")
-# a load sends this many rows at once, and goes on while at most this many are unanswered
+# a load sends `ROWS_AT_ONCE` rows at a time, and more only while at most `ROWS_UNANSWERED` are unanswered
 ROWS_AT_ONCE = 2000
 ROWS_UNANSWERED = 20_000
 
 
 @dataclasses.dataclass
 class Reply:
-    """The lines of a reply, and the seconds until they came."""
+    """The lines of a reply, and the seconds until they had come."""
 
     lines: list[str]
     seconds: float
@@ -54,13 +54,13 @@ def is_row(record: Sequence[str]) -> bool:
 
 
 def are_digits(texts: Sequence[str]) -> bool:
-    """Whether all texts are digits, and not too many."""
+    """Whether all texts consist of digits, at most `MOST_DIGITS` each."""
     digits = "".join(texts)
     return all(texts) and digits.isascii() and digits.isdigit() and max(map(len, texts)) <= MOST_DIGITS
 
 
 def are_rows(records: Sequence[Sequence[str]]) -> bool:
-    """Whether all records are rows, and there are some: like `is_row` of each, in less time."""
+    """Whether there are records and all of them are rows. Faster than `is_row` for each."""
     if set(map(len, records)) != {2}:
         return False
     keys, payloads = zip(*records)
@@ -71,15 +71,15 @@ def are_rows(records: Sequence[Sequence[str]]) -> bool:
 
 
 class Records:
-    """The records of a CSV file, up to the first that isn't a row. `fault` then says which one that is, and why."""
+    """The records of a CSV file up to the first one that isn't a row. `fault` then says which one, and why."""
 
     def __init__(self, file: Iterable[str]):
-        # (blank lines aren't records)
+        # blank lines aren't records
         self.records = filter(None, csv.reader(file))
         self.number, self.has_header, self.fault = 0, False, ""
 
     def next_rows(self, interrupts: Any) -> list[list[str]]:
-        """The next records that are rows. A control-C ends the waiting for another program."""
+        """The next records that are rows. If the file waits for another program, a control-C ends the wait."""
         records: list[list[str]] = []
         fault = ""
         try:
@@ -104,8 +104,8 @@ class Records:
 
 @dataclasses.dataclass
 class Loaded:
-    """How far a load is: how many rows were sent, answered and inserted; the first refusal, and how many were inserted
-    before."""
+    """The state of a load: the numbers of rows sent, answered and inserted; the first refusal, and the number of rows
+    inserted before it."""
 
     sent: int = 0
     answered: int = 0
@@ -122,7 +122,7 @@ class Loaded:
         self.answered += len(lines)
 
     def end_text(self, records: Records, is_interrupted: bool) -> str:
-        """What ended the load early, and which rows were loaded; empty if all were."""
+        """Why the load ended early, and which rows were loaded. Empty if all rows were loaded."""
         if self.refusal:
             later = self.placed - self.before
             also = f"; loaded after it, since already sent: {later}" if later else ""
@@ -137,11 +137,11 @@ class Session:
     """A session with a server, over a channel."""
 
     def __init__(self, channel: Channel, interrupts: Any, policy: Optional[str]):
-        # (None if the policy of a server isn't known)
+        # `policy` is None if the session's policy isn't known
         self.channel, self.interrupts, self.policy = channel, interrupts, policy
 
     def ask(self, statement: Union[str, bytes]) -> Reply:
-        """Sends a statement, and waits for all lines of its reply."""
+        """Sends a statement and waits for all lines of its reply."""
         begun = time.perf_counter()
         self.channel.send(os.fsencode(statement) + b"\n")
         lines = [self.channel.line()]
@@ -154,16 +154,18 @@ class Session:
         return Reply(lines, time.perf_counter() - begun)
 
     def demand(self, statement: str) -> Reply:
-        """The reply to a statement that must not be refused."""
+        """Sends a statement. Returns its reply, or raises a `Fault` if it is refused."""
         reply = self.ask(statement)
         if reply.is_refusal:
             raise Fault(f"{statement}: {in_words(reply.lines[0])}")
         return reply
 
     def load(self, records: Records, progress: Any) -> Loaded:
-        """Sends an insert for each row of the records, and counts the answers. A control-C ends it; what was sent is
-        still answered. If the policy isn't known, it first sends `policy auto`, so that the next query merges all rows
-        at once."""
+        """Sends an insert for each row of the records, and counts the replies.
+
+        After a control-C it sends no more, and waits for the replies to what was sent. If the policy isn't known, it
+        first sends `policy auto`, so that the next query merges all rows at once.
+        """
         if self.policy is None:
             self.demand(f"policy {POLICY}")
         loaded = Loaded()
@@ -186,7 +188,7 @@ class Session:
         return loaded
 
     def settle(self, loaded: Loaded, most: int) -> None:
-        """Waits until all is sent, and at most `most` rows are unanswered."""
+        """Waits until everything is sent, and at most `most` rows are unanswered."""
         while self.channel.unsent or loaded.sent - loaded.answered > most:
             self.channel.step()
             loaded.take(self.channel.lines_given())
@@ -209,7 +211,7 @@ class Session:
             yield found
 
     def save(self, file: IO[str]) -> int:
-        """Writes all rows as CSV, partition by partition. Returns how many."""
+        """Writes all rows as CSV, partition by partition. Returns their number."""
         ends = [it.ends for it in self.layouts()]
         rows = 0
         file.write(",".join(HEADER) + "\n")

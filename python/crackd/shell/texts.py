@@ -1,4 +1,4 @@
-"""The texts of the shell: the meanings of refusals, the help, times and error messages."""
+"""The texts of the shell: the meanings of refusals, the help, times, and error messages."""
 
 import re
 import sys
@@ -43,6 +43,7 @@ sum LO HI         the sum of their payloads
 select LO HI      these rows, a line P.S K V for each
 layout P          how the rows of partition P are laid out, as numbers
 checkpoint P      empties the history of partition P; its rows stay, and the reply is how many entries it had
+stats             the numbers of the table and the server, a line NAME N for each; stats P: those of partition P
 policy NAME       how inserts and deletes are merged: complete, gradual, ripple or auto
 ping              the reply is pong
 quit              ends the session; so does exit
@@ -64,19 +65,19 @@ Control-C ends what is running; rows that were answered stay."""
 
 
 class Fault(Exception):
-    """Why something wasn't done, in words. The shell goes on."""
+    """Something wasn't done. The text says why. The shell goes on."""
 
 
 class Interrupted(Exception):
-    """What a control-C left undone, in words. The shell goes on, but a filter ends."""
+    """A control-C ended something. The text says what is left undone. The shell goes on, but a filter ends."""
 
 
 class Ended(Exception):
-    """Why the shell ends, in words."""
+    """The shell must end. The text says why."""
 
 
 class Left(Disconnected):
-    """The server closed the connection. What had been done by then, in words."""
+    """The server closed the connection. The text says what had been done by then."""
 
 
 def complain(text: object) -> None:
@@ -92,7 +93,7 @@ def in_words(line: str) -> str:
 
 
 def fault_text(path: Any, error: Any) -> str:
-    """What went wrong with a file or a program."""
+    """The text of an error of a file or a program."""
     return f"{getattr(error, 'filename', None) or path}: {getattr(error, 'strerror', None) or error}"
 
 

@@ -1,4 +1,4 @@
-"""Lines at the prompt: edited, completed by Tab, and kept in a file, if the module readline is installed."""
+"""Line editing at the prompt: completion by Tab and a file of earlier lines, if the module readline is installed."""
 
 import contextlib
 import glob
@@ -17,6 +17,7 @@ WORDS = [
     "select",
     "layout",
     "checkpoint",
+    "stats",
     "policy",
     "ping",
     "quit",
@@ -24,19 +25,22 @@ WORDS = [
     "help",
 ]
 COMMANDS = [".load", ".save", ".read", ".layout", ".mode", ".limit", ".bail", ".help", ".quit"]
-# what may follow a word
+# the words that may follow a word
 AFTER = {"policy": list(POLICIES), ".mode": list(MODES), ".bail": ["on", "off"], ".limit": ["off"]}
 OF_FILES = (".load", ".save", ".read")
 MOST_KEPT = 1000
 
 
 def history_file() -> str:
-    """The file for typed lines: what CRACKD_HISTORY says, none if that is empty, or else ~/.crackd_history."""
+    """The file for typed lines: that of the environment variable CRACKD_HISTORY, or by default ~/.crackd_history.
+
+    An empty variable means no file.
+    """
     return os.environ.get("CRACKD_HISTORY", os.path.expanduser("~/.crackd_history"))
 
 
 def completions(line: str, word: str) -> list[str]:
-    """What the last word of a line can be completed to."""
+    """The completions of the last word of a line."""
     before = line[: len(line) - len(word)].split()
     if not before:
         return [f"{it} " for it in WORDS + COMMANDS if it.startswith(word)]
@@ -48,7 +52,7 @@ def completions(line: str, word: str) -> list[str]:
 
 @contextlib.contextmanager
 def edited() -> Iterator[None]:
-    """While lines are typed: earlier lines can be recalled, and new ones are kept."""
+    """A context in which typed lines can be edited, earlier ones can be recalled, and new ones are kept."""
     try:
         import readline
     except ImportError:
