@@ -1,4 +1,4 @@
-"""Checks that `python3 -m unittest` finds from the top. Its modules import each other without the package's name."""
+"""Checks that `python3 -m unittest` finds from the top. The modules import each other without the package's name."""
 
 import pathlib
 import sys

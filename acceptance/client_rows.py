@@ -1,12 +1,11 @@
-"""What a client of a shared server must be answered about its own rows, and what the rows and counts of all clients
-must add up to.
+"""Checks the replies to a client of a shared server about its own rows, and the sums of all clients' rows and counts.
 
-Each client has its own keys, so it knows its rows whatever the others do: each reply is compared with the lists of
-plain_session.py, which take row numbers from the replies. If replies weren't read, the server accepted a prefix of
-these statements, since a session answers in order; the rows left at the end show how long it is. With small limits a
-command may be refused with 6, 9 or 10 because of what others did, and then changes nothing; that these refusals have a
-cause is checked against the replies to all clients. A checkpoint removes the entries of all clients in a partition,
-each once: the numbers that all checkpoints report add up to what was accepted.
+Each client has its own keys, so it knows its rows whatever the others do. Each reply is compared with the lists of
+plain_session.py, which take row numbers from the replies. A session answers in order. So if a client didn't read its
+last replies, the server accepted a prefix of these statements; the rows left at the end show how long the prefix is.
+With small limits a command may be refused with 6, 9 or 10 because of other clients' commands, and then changes nothing.
+The replies to all clients show whether such a refusal has a cause. A checkpoint removes the entries of all clients in a
+partition, each once: the numbers that all checkpoints report add up to the number of commands accepted.
 """
 
 import bisect
@@ -32,7 +31,7 @@ class Own:
 
     def __init__(self, splits: list[int], low: int, high: int, limits: Limits = Limits(), folds: bool = True) -> None:
         self.low, self.high, self.limits, self.folds = low, high, limits, folds
-        # (the limits of the partitions are checked elsewhere)
+        # the limits of the partitions are checked elsewhere
         self.session = Session(splits)
         self.given: list[Number] = []
         # rows that were deleted, and entries that checkpoints removed
@@ -72,7 +71,7 @@ class Own:
         is_over = len(asked) == 1 and (OVER, asked[0]) in self.refused
         refusal = self.refusal_of(said, asked, lines)
         if refusal == OVER or (refusal and not is_over):
-            # (of a range, the partitions before the one that refused have kept their parts)
+            # if a range is refused, the partitions before the one that refused it have kept their parts
             self.refused.update({(refusal, asked[0])} if len(asked) == 1 else ())
             self.session.leave_without_memory(said)
         elif is_over:
@@ -141,7 +140,7 @@ class Own:
             elif said[0] == "insert":
                 (part,) = self.session.parts_of(said)
                 left = found[part.number]
-                # (a partition numbers its rows in the order of their insertion)
+                # a partition numbers its rows in the order of their insertion
                 if left and standing[left[0]] == tuple(said[1]):
                     self.keep(part, left.popleft(), said[1])
                     most[part.number] += 1
@@ -172,7 +171,7 @@ class Account:
 
     def __init__(self, splits: list[int]) -> None:
         self.splits, self.rows, self.given, self.closed = splits, {}, [0] * (len(splits) + 1), {}
-        # what this reading itself asked, and how many entries its checkpoints removed
+        # the counts of this reading's own statements, and how many entries its checkpoints removed
         self.counts, self.folded = Counts(), 0
 
     def look(self, connection: Client, clients: list[Own], limits: Limits) -> None:
@@ -188,7 +187,7 @@ class Account:
         for part in range(len(self.given) if limits.life < MOST_LIFE else 0):
             lines = connection.answer(f"select {ends[part]} {ends[part + 1]}")
             if lines == ["refused 10"]:
-                # (if its life is over, its layout gives the number of rows)
+                # if the partition's life is over, its layout gives the number of rows
                 self.closed[part] = int(connection.answer(f"layout {part}")[0].split(" ")[3])
             else:
                 self.read_rows(lines)
@@ -223,7 +222,7 @@ class Account:
         for line in lines[1:]:
             number, *row = line.split(" ")
             number, (key, payload) = tuple(map(int, number.split("."))), map(int, row)
-            # (Python accepts more spellings of a number than are ever written)
+            # int() accepts more spellings of a number than the server writes
             expect("how a row is written", f"{number[0]}.{number[1]} {key} {payload}", line)
             if number <= before or bisect.bisect_right(self.splits, key) != number[0]:
                 raise Wrong(f"the row {line!r} comes after the row {before}")

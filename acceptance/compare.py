@@ -1,12 +1,12 @@
 """Compares what a session wrote with the lists of plain_session.py, even if memory ran out for some statements.
 
-Each statement that is answered `refused 8` must ask a partition, and must not be refused for an earlier cause; the
+Each statement that is answered `refused 8` must ask a partition, and must have no earlier cause for a refusal; the
 lists then never see it. (A range over several partitions may have been answered in part. That part is in their
-histories, so a checkpoint may report that many entries more; no row changes.) Everything else must be the list's
-answer, to the last byte. A layout is checked by its equations, since no rule fixes more of it: the sizes of the pieces
-add up to the column; column, pending insertions and free cells add up to the cells; the rows are the column minus the
-pending deletions plus the pending insertions, and as many as the list has; the pieces join from one end of the
-partition's keys to the other; and each number is at least what is known.
+histories, so a checkpoint may report that many more entries; no row changes.) Every other reply must be the lists', to
+the last byte. A layout is checked by equations, since no rule determines more of it: the sizes of the pieces add up to
+the column; column, pending insertions and free cells add up to the cells; the rows are the column minus the pending
+deletions plus the pending insertions, and as many as the list has; the pieces cover the partition's keys from one end
+to the other without gaps; and each number is at least the known minimum.
 """
 
 import collections
@@ -20,6 +20,8 @@ from plain_session import NO_CELL, RANGES, Part, Said, Session
 SHORT = "refused 8"
 # lines with numbers; each # matches a number
 LAYOUT, PIECE = "layout # rows # column # out # in # cells # free # pieces #", "piece # # #"
+NUMBERS = ["rows", "pending_insertions", "pending_deletions", "pieces", "cells", "free_cells"]
+NUMBERS += ["commands_accepted", "commands_since_checkpoint"]
 TOTALS, FOLDED = "accepted # inserted # deleted # held #", "folded #"
 # the totals, as replies show them: `least` and `most` commands in histories (since a refused range may have been
 # answered in part), and rows that were `inserted`, `deleted` and `listed`
@@ -94,11 +96,29 @@ def look(lines: list[str], part: Part) -> int:
     return pieces + 1
 
 
+def check_numbers(lines: list[str], parts: list[Part]) -> int:
+    """Checks the numbers at the start of these lines, which are those of these partitions. Returns how many lines they
+    have."""
+    if not parts:
+        expect("the reply", ["refused 5"], lines[:1])
+        return 1
+    found = [numbers_of(line, f"{name} #") for name, line in zip(["stats", *NUMBERS], lines)]
+    if len(found) <= len(NUMBERS) or not all(found) or found[0] != [len(NUMBERS)]:
+        raise Wrong(f"no numbers, but {lines[: len(NUMBERS) + 1]}")
+    rows, pending, doomed, pieces, cells, free, accepted, since = (it[0] for it in found[1:])
+    kept, folded, untold = (sum(getattr(part, name) for part in parts) for name in ("kept", "folded", "untold"))
+    expect("rows and cells", (sum(len(part.rows) for part in parts), rows + doomed + free), (rows, cells))
+    is_right = pending <= rows and len(parts) <= pieces and kept <= since <= kept + untold
+    if not is_right or not folded + kept <= accepted <= folded + kept + untold:
+        raise Wrong(f"{lines[: len(NUMBERS) + 1]}, where {kept} to {kept + untold} are kept, and {folded} checkpointed")
+    return len(found)
+
+
 def answer_of(session: Session, said: Said, line: str) -> list[str] | Part:
     """The list's answer to a statement. It may depend on the first line that was written."""
     parts = session.parts_of(said)
     if parts and said[0] == "checkpoint":
-        # (as many entries as the list has kept, or more by some of those that were never reported)
+        # as many entries as the list has kept, or up to `untold` more, which were never reported
         folded = numbers_of(line, FOLDED)
         if folded and parts[0].kept < folded[0] <= parts[0].kept + parts[0].untold:
             parts[0].kept = folded[0]
@@ -109,6 +129,8 @@ def answer_of(session: Session, said: Said, line: str) -> list[str] | Part:
 
 def take(session: Session, said: Said, lines: list[str], seen: Seen, may_be_first: bool) -> int:
     """Checks the answer at the start of these lines; see `compare`. Returns how many lines it has."""
+    if said[0] == "stats":
+        return check_numbers(lines, session.parts_of(said))
     line, parts = lines[0] if lines else "", len(session.parts_of(said))
     if line == SHORT:
         seen.short += 1

@@ -1,5 +1,5 @@
-"""What checks use: the program, a server and its clients, a child that ends, one on a terminal, and one that is refused
-memory.
+"""Fixtures of the checks: the program, a server and its clients, and child processes that end, that run on a terminal,
+or that are refused memory.
 
 `python3 -m unittest acceptance.test_NAME` runs a module of checks on the program of this checkout, or on the one that
 CRACKD names; `-k WORD` runs those whose name contains the word.
@@ -33,11 +33,11 @@ CRATES = TOP / "crates"
 SECONDS, PATIENT_SECONDS, TRIES, MOST_WORKERS = 60, 120, 5, 64
 COMPILERS = ["cc", "gcc", "clang", "tcc"]
 PORT_IS_TAKEN = "crackd: refused 17\n"
-# the time of a line of a server's log, by RFC 3339 and in UTC, and the line itself; that of a refused run has no time
+# the time of a line in a server's log, by RFC 3339 in UTC; such a line; and the line of a refused run, without a time
 TIME = r"\d{4}-(?:0[1-9]|1[0-2])-(?:0[1-9]|[12]\d|3[01])T(?:[01]\d|2[0-3]):[0-5]\d:[0-5]\dZ"
 TIMED, REFUSED_RUN = re.compile(rf"({TIME}) (crackd: .+)"), re.compile(r"crackd: refused \d+")
 CONTROL_C, CONTROL_D = "\x03", "\x04"
-# (a dumb terminal gets no escape sequences for line editing)
+# a dumb terminal gets no escape sequences for line editing
 DUMB = {"TERM": "dumb", "INPUTRC": "/dev/null"}
 Ended = tuple[int, typing.Any, typing.Any]
 
@@ -46,7 +46,7 @@ class Wrong(AssertionError):
     """Something other than what was wanted."""
 
 
-# what ends a check that finds a wrong reply, a lost connection or a silent program
+# the errors that end a check: a wrong reply, a lost connection or a silent program
 FAULTS = (Wrong, OSError, ValueError, IndexError, subprocess.TimeoutExpired)
 
 
@@ -121,7 +121,7 @@ def fed(command: list[str], given: bytes, piece: int = 65536) -> Ended:
     source, target = os.pipe()
 
     def feed() -> None:
-        # (a session that has ended reads nothing more)
+        # a session that has ended reads nothing more
         with contextlib.suppress(BrokenPipeError), open(target, "wb", buffering=0) as file:
             for at in range(0, len(given), piece):
                 file.write(given[at : at + piece])
@@ -168,7 +168,7 @@ class Server:
 
     def __init__(self, program: str, workers: int, *words: str, environment={}, may_end: bool = False) -> None:
         pipes = {"stdin": subprocess.PIPE, "stdout": subprocess.PIPE, "env": {**os.environ, **environment}}
-        # (another program may take the port in the meantime, and the server may write an error before anybody reads it)
+        # another program may take the port meanwhile; errors go to a file, since nobody reads them yet
         for _ in range(TRIES):
             self.port, self.log = free_port(), tempfile.TemporaryFile("a+", encoding="ascii")
             command = [program, "serve", "--port", str(self.port), "--workers", str(workers), *words]
@@ -294,7 +294,7 @@ class Client:
 def length_of(head: str) -> int:
     """How many lines a reply has, from its first line."""
     words = head.split()
-    return 1 + int(words[-1]) if words[:1] in (["rows"], ["layout"]) else 1
+    return 1 + int(words[-1]) if words[:1] in (["rows"], ["layout"], ["stats"]) else 1
 
 
 def bytes_of(process: int, name: str) -> int:
@@ -307,9 +307,9 @@ def bytes_of(process: int, name: str) -> int:
     return int(found[1]) * 1024 if found else 0
 
 
-def served_bytes(program: str, limit: int, *commands: int) -> list[int]:
+def served_bytes(program: str, limit: int, *commands: int, audit: typing.Sequence[str] = ()) -> list[int]:
     """How many bytes a server uses after this many commands, and this many more: counts by four clients."""
-    words = ["--until-eof", "--quiet", "--policy", "auto", "--auto-checkpoint", "--limit", str(limit)]
+    words = ["--until-eof", "--quiet", *audit, "--policy", "auto", "--auto-checkpoint", "--limit", str(limit)]
     rows, at_once, bytes_then = 1000, 5000, []
     replies = b"count 800\n" * at_once
     with Server(program, 4, *words) as server, contextlib.ExitStack() as stack:
@@ -330,6 +330,19 @@ def served_bytes(program: str, limit: int, *commands: int) -> list[int]:
         server.close()
         server.wait((rows + sum(commands), rows, 0, rows))
     return bytes_then
+
+
+def greatest_bytes(command: list[str], given: bytes) -> int:
+    """How many bytes a child has used at most when it writes, if that is more than a pipe takes."""
+    with tempfile.TemporaryFile() as source:
+        source.write(given)
+        source.seek(0)
+        with subprocess.Popen(command, stdin=source, stdout=subprocess.PIPE) as child:
+            child.stdout.read(1)
+            used = bytes_of(child.pid, "VmHWM")
+            child.stdout.read()
+    expect("status", 0, child.returncode)
+    return used
 
 
 @functools.cache
@@ -371,7 +384,7 @@ class Terminal:
             termios.tcsetattr(other, termios.TCSANOW, attributes)
 
         def control() -> None:
-            # (so that a control-C reaches the program, and a hang-up of the terminal as well)
+            # makes a control-C and a hang-up of the terminal reach the program
             fcntl.ioctl(0, termios.TIOCSCTTY, 0)
             for number in (signal.SIGHUP, signal.SIGINT):
                 signal.signal(number, signal.SIG_IGN if number in ignored else signal.SIG_DFL)
@@ -402,7 +415,7 @@ class Terminal:
         """Whether more was shown within this time."""
         given = b""
         if select.select([self.end], [], [], seconds)[0]:
-            # (reading from a terminal whose program has ended is an error)
+            # reading from a terminal whose program has ended is an error
             with contextlib.suppress(OSError):
                 given = os.read(self.end, 65536)
         self.shown += given.decode().replace("\r\n", "\n")

@@ -1,7 +1,7 @@
-"""Seeded scripts of ranges in orders that give a cracked column little: they rise, fall, zoom in or repeat.
+"""Seeded scripts of ranges in orders by which cracking gains little: rising, falling, zooming in or repeated.
 
-Each has so many rows that under `auto` the column is also cracked at bounds that no range has. Replies are those of
-plain_session.py. Layouts meet their equations, and have the ends of the range that was read before them.
+Each script has so many rows that under `auto` the column is also cracked at bounds that no range has. Replies must be
+those of plain_session.py. Layouts must meet their equations, and have the ends of the range read before them as bounds.
 """
 
 import random
@@ -12,7 +12,7 @@ import fixtures
 from plain_session import RANGES, Session, statements
 
 ROWS, QUERIES, SEEDS = 5000, 300, range(8)
-# by the seed: the greatest key, so that there are few rows of each key, or many, or hundreds of one
+# by the seed: the greatest key, so that hardly any rows share a key, or many do, or hundreds have the same key
 KEYS = [2**63, 4000, 20]
 # how often a range is counted, summed and listed
 OFTEN = [4, 4, 1]
@@ -46,7 +46,7 @@ def script(seed: int) -> list[str]:
     """The statements: a load, and ranges in an order, each followed by a layout, with some changes in between."""
     numbers, order, most = random.Random(seed), ORDERS[seed % len(ORDERS)], KEYS[seed % len(KEYS)]
     insert = lambda: f"insert {numbers.randrange(most + 1)} {numbers.randrange(-1000, 1000)}"
-    # (the first range comes while there are no bounds)
+    # the first range is read while there are no bounds
     lines = [insert() for _ in range(ROWS)] + [f"count 0 {most // 50 + 1}"]
     for number in range(QUERIES):
         low, high = order(number, most)

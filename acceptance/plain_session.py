@@ -1,15 +1,16 @@
-"""The plain model of a session, and of CSV: it reads bytes by the grammar of docs/SPECIFICATION.md and answers
+"""The plain model of a session and of CSV: it reads bytes by the grammar of docs/SPECIFICATION.md and answers
 statements from lists of rows. It is written from the rules alone.
 
-A statement that was read is the text of a refusal, or a kind with its numbers. All four policies answer alike. Each row
-takes a cell; so does a row that was deleted or updated in the column, until a range that has its key frees it. A row
-that was inserted or updated since the last range waits beside the column; one whose key was in that range is in it. So
-an insert is refused with 9 if rows, and those that left the column since the last range, are as many as there may be
-cells; it isn't if rows and all that may wait to be freed are fewer; after a layout of its partition it is refused
-exactly if the layout had as many cells as there may be, and none free. An update is refused under the same conditions
-if its row is in the column, and isn't if its row waits beside it. With automatic checkpoints, rows that wait to be
-freed are freed when a cell is missing, so an insert is refused with 9 exactly if there are as many rows as there may be
-cells.
+A statement that was read is the text of a refusal, or a kind with its numbers. All four policies give the same replies.
+
+Each row takes a cell. A row that was deleted or updated in the column keeps a cell until a range that contains its key
+frees it. A row that was inserted or updated since the last range is a pending insertion; if its key was in that range
+it is in the column. So an insert is refused with 9 if the rows, and those that left the column since the last range,
+are together as many as the limit of cells. It isn't refused if the rows, and all that may keep a cell to be freed, are
+fewer. After a layout of its partition it is refused exactly if the layout had as many cells as the limit, and none
+free. An update is refused under the same conditions if its row is in the column, and isn't if its row is a pending
+insertion. With automatic checkpoints such cells are freed when a cell is missing, so an insert is refused with 9
+exactly if there are as many rows as the limit of cells.
 """
 
 import bisect
@@ -36,7 +37,7 @@ FIELDS = {
 }
 # the first word of a line of an HTTP request: a method, or the name of a header with a colon after it
 HTTP = re.compile(rb"(?:GET|POST|HEAD|PUT|DELETE|OPTIONS|CONNECT|TRACE|PATCH)\Z|[0-9A-Za-z-]+:")
-# what ends a session; and what asks no partition
+# the statements that end a session; and those that ask no partition
 LAST = ("quit", "http")
 UNASKED = ("policy", "ping", *LAST)
 Said = str | tuple[str, list]
@@ -82,7 +83,7 @@ def lines(given: bytes) -> list[bytes]:
 
 def value(word: bytes, least: int, most: int) -> int | None:
     """The number in a field: digits, with a `-` before them if numbers below 0 are allowed; None if it isn't one."""
-    # (int() also accepts spaces, signs and underscores)
+    # int() also accepts spaces, signs and underscores
     digits = word.removeprefix(b"-") if least < 0 else word
     is_number = digits.isdigit() and len(digits) <= DIGITS
     return int(word) if is_number and least <= int(word) <= most else None
@@ -106,10 +107,11 @@ def read_line(line: bytes) -> Said:
     if kind == "policy" and len(names) == 1 and names[0] in POLICIES:
         return kind, names
     if kind in ("delete", "update"):
-        # (without a row number there is one field too few, or an empty one)
+        # without a row number there is one field too few, or an empty one
         row = words[1].split(b".") if len(words) > 1 else []
         words[1:2] = row if len(row) == 2 else [b"", b""]
-    found = values(words[1:], FIELDS[kind]) if kind in FIELDS else None
+    fields = [PART][: len(words) - 1] if kind == "stats" else FIELDS.get(kind)
+    found = values(words[1:], fields) if fields is not None else None
     if found is None:
         return "refused 1"
     if kind in RANGES and not found[0] <= found[1] <= MOST:
@@ -148,10 +150,10 @@ class Part:
         self.keys: list[tuple[int, int]] = []
         # entries in the history, checkpointed ones, and those that may have been kept but were never reported
         self.next = self.kept = self.folded = self.untold = 0
-        # whether there is a cell for one more row, as a layout reported; None if there was none since the last command
+        # whether there is a cell for one more row, by a layout; None if there was no layout since the last command
         self.has_cell: bool | None = None
-        # the serials of rows beside the column, and of rows in it; how many left it since the last range; and the keys
-        # of all that may wait to be freed
+        # the serials of pending insertions, and of rows in the column; how many rows left the column since the last
+        # range; and the keys of all rows that may keep a cell to be freed
         self.fresh: set[int] = set()
         self.settled: set[int] = set()
         self.waiting, self.doomed = 0, []
@@ -302,10 +304,13 @@ class Session:
         kind, numbers = said
         if kind in RANGES and numbers[0] != numbers[1]:
             return [part for part in self.parts if part.low < numbers[1] and numbers[0] < part.high]
+        if kind == "stats" and not numbers:
+            return self.parts
         return [self.part_of(numbers[0])] if kind in ("insert", *RANGES) else self.parts[numbers[0] : numbers[0] + 1]
 
     def answer(self, said: Said) -> list[str] | Part:
-        """The lines of the answer to a statement, or the partition whose layout it asks for."""
+        """The lines of the answer to a statement, or the partition whose layout or numbers it asks
+        for."""
         if isinstance(said, str):
             return [said]
         if said[0] in UNASKED:
@@ -317,7 +322,7 @@ class Session:
                 raise Refused("refused 5")
             if kind in RANGES:
                 return told(kind, [row for part in parts for row in part.between(*numbers)])
-            return parts[0] if kind == "layout" else parts[0].answer(kind, numbers)
+            return parts[0] if kind in ("layout", "stats") else parts[0].answer(kind, numbers)
         except Refused as refused:
             return [str(refused)]
 
@@ -357,7 +362,7 @@ def text_of(lines: typing.Iterable[str]) -> bytes:
 
 
 def replies(given: bytes, splits: typing.Iterable[int] = ()) -> bytes:
-    """The text of the replies to a session without layouts."""
+    """The text of the replies to a session without layouts and numbers of partitions."""
     session = Session(splits)
     return text_of(line for it in statements(given) for line in session.answer(it))
 

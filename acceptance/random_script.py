@@ -1,8 +1,8 @@
 """Seeded scripts of a thousand random statements of all kinds; plain_session.py must give the same answers.
 
-The seed determines how many splits there are, how far keys go, whether histories get full, whether limits are so small
-that statements are often refused with 6, 9 and 10, and whether checkpoints are automatic, so that none is refused with
-6. Keys and range ends are often splits, or next to one, or at a limit; so are payloads, which have either sign.
+The seed determines the number of splits, the greatest key, whether histories get full, whether limits are so small that
+statements are often refused with 6, 9 and 10, and whether checkpoints are automatic, so that none is refused with 6.
+Keys and range ends are often splits, or next to one, or at a limit; so are payloads, which have either sign.
 Checkpoints occur among the other statements.
 """
 
@@ -14,7 +14,7 @@ import fixtures
 from plain_session import LEAST_PAYLOAD, MOST, MOST_ENTRIES, MOST_PAYLOAD, POLICIES, RANGES
 from plain_session import Limits, Part, Session, read_line, statements
 
-# where numbers of 31, 32, 63 and 64 bits end: with too few bits, or another sign, these become other numbers
+# the limits of numbers of 31, 32, 63 and 64 bits: with too few bits, or another sign, these become other numbers
 EDGES = [0, 1, 2**31 - 1, 2**31, 2**32 - 1, 2**32, 2**32 + 1, 2**63 - 1, 2**63, 2**63 + 1, 2**64 - 2, 2**64 - 1, 2**64]
 STATEMENTS = 1000
 SEEDS = range(36)
@@ -24,7 +24,7 @@ KEYS = [20, 1000, MOST - 1]
 SPLITS = [(0, 700, 500), (4, 200, 230), (15, 200, 110)]
 # out of a thousand statements, how many of each kind
 KINDS = {"insert": 300, "delete": 120, "update": 120, "count": 120, "sum": 90, "select": 60, "layout": 80}
-KINDS |= {"checkpoint": 30, "policy": 20, "ping": 10, "other part": 10, "bad range": 10, "bad line": 10}
+KINDS |= {"checkpoint": 30, "policy": 20, "ping": 10, "stats": 20, "other part": 10, "bad range": 10, "bad line": 10}
 
 
 def random_bound(numbers: random.Random, splits: list[int], most: int) -> int:
@@ -88,6 +88,7 @@ def statement(kind: str, row: str, key: object, payload: object, low: object, hi
         "checkpoint": row.split(".")[0],
         "policy": policy,
         "ping": "",
+        "stats": row.split(".")[0] if len(row) % 2 else "",
         "quit": "",
     }
     return f"{kind} {words.get(kind, f'{low} {high}')}".rstrip(" ")
@@ -103,7 +104,7 @@ def random_statement(numbers: random.Random, session: Session, most: int) -> str
     if kind == "bad line":
         return numbers.choice(bad_lines(key, serial, low))
     if kind == "other part":
-        kind, number = numbers.choice(["delete", "update", "layout", "checkpoint"]), len(session.parts)
+        kind, number = numbers.choice(["delete", "update", "layout", "checkpoint", "stats"]), len(session.parts)
         number += numbers.randrange(3)
     elif kind == "update" and numbers.random() < 0.7:
         key = min(max(key, part.low), part.high - 1)

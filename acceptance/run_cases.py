@@ -180,7 +180,7 @@ def said(client: fixtures.Client, statement: str) -> str:
         return "".join(f"{it}\n" for it in client.answer(statement))
 
     def send() -> None:
-        # (one that was never served may be reset)
+        # the connection of a client that was never served may be reset
         with contextlib.suppress(OSError):
             client.send(text.replace("\\n", "\n"))
             if word == ".ends":

@@ -7,8 +7,8 @@ import typing
 import unittest
 
 FOLDER = os.path.dirname(os.path.abspath(__file__))
-# the module whose checks take longest, so they are started first
-LONGEST = "test_memory"
+# the modules whose checks take longest, which are started first
+LONGEST = ("test_memory", "test_server_memory")
 
 
 def flat(suite: unittest.TestSuite) -> typing.Iterator[unittest.TestCase]:

@@ -18,6 +18,7 @@ import sys
 import time
 import typing
 
+import crowds
 import fixtures
 import ordered_script
 import random_script
@@ -79,6 +80,7 @@ def kinds() -> dict[str, Kind]:
         Kind("hours-whole", whole_hour, alone=True, once=True),
         Kind("clients", test_clients.check, alone=True),
         Kind("hours", lambda program, seed: Hour(program, seed).run(), alone=True),
+        Kind("crowds", crowds.check, alone=True),
         Kind("limits", test_clients.check_small, alone=True),
         Kind("threads", test_histories.soak, "crack_bench", shares=4),
         Kind("lines", test_lines.check),
@@ -109,7 +111,7 @@ def run_case(name: str, top: pathlib.Path, seed: int) -> tuple[str | None, float
     began, wrong = time.monotonic(), None
     try:
         kinds()[name].check(fixtures.built("crackd", top), seed)
-    # (whatever ends a case is reported, so that the others go on)
+    # whatever ends a case is reported, so that the others go on
     except Exception as error:  # noqa: BLE001
         wrong = f"{type(error).__name__}: {error}"
     return wrong, time.monotonic() - began

@@ -1,4 +1,4 @@
-"""A server with clients of all kinds, most of them bad ones; its hour; and its memory.
+"""A server with clients of all kinds, most of them hostile; an hour of its work, scaled down; and its memory.
 
 Some clients connect and close, reset the connection, send half a line, one byte a second, random bytes, 64 MB without a
 line feed or 200,000 statements at once, say nothing, or request large lists and read none. Each has its own keys; what
@@ -8,10 +8,11 @@ full; two of three seeds have small limits. The server must end by itself once i
 gives the same clients, but not the order in which a server takes them. If only honest clients share two partitions with
 small limits, the limits hold for all of them together, and each entry is checkpointed once.
 
-An hour is scaled down. First come clients of all kinds except those that leave many rows; checkpoints are automatic,
-and 6 is no reply. Then steady clients connect, whose rows come, change and go while there are few at a time. A session
-that was open from the beginning reads the table at the end, and is closed once the server's input ends. By standard
-error each automatic checkpoint removed as many entries as a history may have, and each entry was checkpointed once.
+In the hour there are first clients of all kinds except those that leave many rows. Checkpoints are automatic, so no
+statement is refused with 6. Then steady clients connect, which insert, update and delete rows and keep few at a time. A
+session that was open from the beginning reads the table at the end, and is closed once the server's input ends.
+Standard error shows that each automatic checkpoint removed as many entries as a history may have, and that each entry
+was checkpointed once.
 """
 
 import concurrent.futures
@@ -291,13 +292,13 @@ KINDS = [
     Kind(pipelines, 1, 4),
 ]
 TAKE_LONG = {it.visit for it in KINDS if it.most}
-# those that may be gone before a worker takes them
+# the clients that may be gone before a worker serves them
 ABRUPT = {closes, resets, half_a_line, random_bytes}
 SEED, SESSIONS, SLOW_SECONDS = 1, 400, 8
 # how many splits there are, and how many connections may wait for a worker
 SPLITS, WAITING, BACKLOG = 7, 32, 16
-# the limits of a partition, by the seed: histories that get full, and lives that end; no limit that is reached;
-# histories, and cells that run out
+# the limits of a partition, by the seed: histories get full and lives end; no limit is reached; histories get full and
+# cells run out
 LIMITS = [Limits(500, life=4000), Limits(), Limits(500, 1500)]
 # servers with clients of all kinds: without checkpoints; with checkpoints in the middle of the honest ones' work; with
 # histories that get full and cells that may run out, or lives that may end; and with silent ones at all workers but one
@@ -318,9 +319,9 @@ SMALL = {
 }
 # how many bytes of memory a server may use for each of these, beyond those at its start
 BYTES_OF_A_COMMAND, BYTES_OF_A_LISTED_ROW, BYTES_OF_A_SESSION = 330, 60, 100_000
-# blocks of memory from this size on are mapped separately; else the C library raises that size to that of the greatest
-# block that was freed, such as that of an emptied history, and what grows in smaller blocks leaves holes, which the
-# server doesn't ask for. Without checkpoints nothing is freed.
+# Blocks of memory from this size on are mapped separately. Otherwise the C library raises this size to that of the
+# largest block that was freed, such as an emptied history, and blocks that grow below it leave holes, which the server
+# didn't ask for. Without checkpoints nothing is freed.
 MAPPED_FROM = {"MALLOC_MMAP_THRESHOLD_": "131072"}
 Visit = typing.Callable[[Guest], None]
 # the limits of a partition in an hour: cells just enough for its rows
@@ -336,7 +337,7 @@ CHECKPOINTS = re.compile(r"crackd: (?:checkpoint|(\d+) checkpoints, the last) of
 TOLD = 1000
 CUT_OFF = re.compile(r"crackd: client 127\.0\.0\.1:\d+: session cut off: refused (?:17|18): .*")
 ENDED = re.compile(r"crackd: ended: sessions (\d+), cut off (\d+)")
-# how many commands there are before and after the memory is read, a thirtieth of what bench/ measures
+# the length of histories, and after how many commands the memory is read: a thirtieth of what bench/ measures
 LIMIT, FEW, MANY = 2_184, 100_000, 1_000_000
 
 
@@ -357,7 +358,7 @@ class Peak(threading.Thread):
 
 def wait_for_a_place(port: int) -> None:
     """Waits until few connections wait: if too many do, one that leaves may be lost, and the server lacks a session."""
-    # (the port in hexadecimal digits, the state of a listener, and how many connections wait for it)
+    # the port in hexadecimal digits, the state of a listener, and how many connections wait for it
     listener, end = re.compile(rf":{port:04X} \S+ 0A \w+:(\w+)"), time.monotonic() + SECONDS
     while (found := listener.search(pathlib.Path("/proc/net/tcp").read_text())) and int(found[1], 16) > WAITING:
         if time.monotonic() > end:
@@ -370,7 +371,7 @@ def planned(numbers: random.Random, sessions: int, workers: int, of: list[Kind])
     kinds, left = [], sessions
     for kind in of:
         count = max(1, round(sessions * kind.share / 100))
-        # (each kind holds fewer than half of the workers)
+        # each kind holds fewer than half of the workers
         count = min(count, kind.most or count, (workers - 1) // 2 if kind.most else count)
         kinds += [(kind.visit, 1)] * count
         left -= count
@@ -419,12 +420,12 @@ class Storm:
         self.width = MOST // owners
         self.lows = [it * self.width for it in numbers.sample(range(owners), owners)]
         places = numbers.sample(range(1, owners), min(how.get("splits", SPLITS), owners - 1))
-        # (some clients have a split inside their keys)
+        # some clients have a split inside their keys
         self.splits = sorted(it * self.width + numbers.choice([0, self.width // 2]) for it in places)
         self.seed = numbers.randrange(MOST)
         self.policy = numbers.choice(POLICIES)
         self.limits = how.get("limits", LIMITS[seed % len(LIMITS)])
-        # (half of the servers keep receipts)
+        # half of the servers keep receipts
         self.audit = ["--audit"] if seed % 2 else []
         self.clients: list[Own] = []
         # how many entries automatic checkpoints removed
@@ -446,7 +447,7 @@ class Storm:
     def visit(self, server: Server, account: Account, peak: Peak) -> None:
         """Runs all clients, and reads what is left once they have gone, with as many sessions as are served at once."""
         self.visit_all(server.port)
-        # (so no worker is still in an earlier session)
+        # each worker serves one of these, so none is still in an earlier session
         last = [Client(server.port) for _ in range(self.workers)]
         for it in last:
             it.send("nonsense\n")
@@ -494,7 +495,7 @@ class Storm:
         """Compares rows, totals and memory with the answers to the clients."""
         counts = come_to(account, self.clients) + account.counts
         accepted, listed = check_totals(wrote, counts), counts["listed"]
-        # (each partition's last checkpoint was at the end; the last automatic ones of short histories have no line)
+        # each partition's last checkpoint was at the end; the last automatic ones of short histories have no line
         folded = account.folded + self.due + sum(it.folded.total() for it in self.clients)
         history = self.limits.history if self.limits.is_automatic else TOLD
         if accepted - folded not in range(0, TOLD, history):
@@ -589,6 +590,21 @@ class Clients(fixtures.Case):
         early, late = fixtures.served_bytes(self.program, LIMIT, FEW, MANY - FEW)
         self.report("memory of a server", {f"after {FEW} commands": early, f"after {MANY}": late})
         self.assertLessEqual(late, 1.05 * early)
+
+    def test_what_an_audit_takes(self) -> None:
+        """With an audit a command takes an entry and a receipt, 80 and 96 bytes, whatever checkpoints are made."""
+        early, late = fixtures.served_bytes(self.program, LIMIT, FEW, FEW, audit=["--audit"])
+        self.report("memory of an audit", {f"after {FEW} commands": early, f"after {2 * FEW}": late})
+        self.assertGreaterEqual(late - early, 0.98 * (80 + 96) * FEW)
+        self.assertLessEqual(late - early, 1.1 * (80 + 96) * FEW)
+
+    def test_what_an_audit_of_a_batch_takes(self) -> None:
+        """The same of a batch, beside one without an audit."""
+        given, taken = b"0 count 0 9\n" * FEW, []
+        for audit in ([], ["--audit"]):
+            taken.append(fixtures.greatest_bytes([self.program, "batch", "--workers", "1", *audit], given))
+        self.report("memory of a batch", dict(zip(["without an audit", "with one"], taken)))
+        self.assertGreaterEqual(taken[1] - taken[0], 0.98 * (80 + 96) * FEW)
 
 
 for name, how in [*STORMS.items(), *((name, HONEST | it) for name, it in SMALL.items())]:

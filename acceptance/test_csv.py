@@ -10,7 +10,7 @@ from fixtures import expect
 from plain_session import HEADER, MARK, Limits, exported
 
 SMALL = b"key,payload\n150,6\n50,5\n"
-# fields past the limits, of keys and of payloads; and what is neither
+# fields beyond the limits of keys and of payloads; and fields that are neither
 PAST = [[b"18446744073709551616", b"-1"], [b"9223372036854775808", b"-9223372036854775809"]]
 NONE = [b"", b" 1", b"+1", b"- 1", b"-", b"x", b"0" * 21, b'1"2', MARK + b"1"]
 
@@ -83,7 +83,7 @@ class Csv(fixtures.Case):
 
     def test_cut_anywhere(self) -> None:
         """A small input is cut after each byte; the specification's table and plain_session.py have the results."""
-        # (by the length: the number of the refused record, or 0, and how many rows are exported)
+        # by the length: the number of the refused record, or 0, and how many rows are exported
         ends = [(0, 0)] + [(1, 0)] * 10 + [(0, 0)] * 2 + [(2, 0)] * 4 + [(0, 1)] * 2 + [(3, 1)] * 3 + [(0, 2)] * 2
         rows = [b"150,6\n", b"50,5\n"]
         for size, (record, count) in enumerate(ends):

@@ -22,7 +22,7 @@ GIVEN = b"insert 1 10\ninsert 2 -20\nnonsense\nselect 0 5\nsum 0 5\n"
 WANTED = b"row 0.0\nrow 0.1\nrefused 1\nrows 2\n0.0 1 10\n0.1 2 -20\nsum -10\n"
 RECORDS = b"key,payload\n1,10\n2,-20\n"
 BATCH_WROTE = b"worker 0\nrow 0.0\naccepted 1 inserted 1 deleted 0 held 1\n"
-# what each subcommand that reads is given, and writes
+# the subcommands that read: arguments, input and output of each
 SUBCOMMANDS = [
     (["script"], GIVEN, WANTED),
     (["batch", "--workers", "1"], b"0 insert 1 10\n", BATCH_WROTE),
@@ -50,7 +50,7 @@ def check(program: str, seed: int) -> None:
     numbers = random.Random(seed)
     splits = sorted(numbers.sample(range(1, 1000), numbers.randrange(4)))
     text = random_script.random_text(numbers, Session(splits), random_script.STATEMENTS // 5, 1000)
-    given = b"".join(it + b"\n" for it in text.splitlines() if not it.startswith(b"layout"))
+    given = b"".join(it + b"\n" for it in text.splitlines() if not it.startswith((b"layout", b"stats")))
     wanted = plain_session.replies(given, splits)
     sizes = [numbers.randrange(len(wanted) + 2) for _ in range(20)] + [4096, 8192, len(wanted) - 1, len(wanted)]
     for size in sizes:

@@ -1,4 +1,4 @@
-"""Tests of the checks: right answers pass, and dropped, doubled, changed and unfounded ones are found."""
+"""Tests of the checks: they pass right answers, and find answers that are dropped, doubled, changed or unfounded."""
 
 import contextlib
 import io
@@ -242,7 +242,7 @@ class Comparison(fixtures.Case):
 
     def test_each_line_and_each_total_of_a_batch_counts(self) -> None:
         texts = test_memory.worker_texts(1)
-        words = ["batch", "--workers", test_memory.WORKERS, *test_memory.SPLITS]
+        words = ["batch", "--workers", test_memory.WORKERS, "--audit", *test_memory.SPLITS]
         lines = self.lines(test_memory.batch_text(texts), *words)
         check = lambda wrote: test_memory.check_batch(texts, wrote, 0)
         check(b"".join(lines))
@@ -257,7 +257,7 @@ class Comparison(fixtures.Case):
         check = lambda wrote: test_memory.check_layouts(given, compare(given, wrote, short=1), whole)
         kept = b"row 0.0\ncount 0\n" + pending
         check(kept + b"refused 8\n" + pending)
-        # (a refused row isn't there)
+        # a refused row isn't there
         check(b"refused 8\ncount 0\n" + none + b"folded 1\n" + none)
         self.assert_found(check, [kept + b"refused 8\n" + merged, kept + b"folded 2\n" + merged])
 
@@ -320,7 +320,7 @@ class StandIns(fixtures.Case):
     def test_memory(self) -> None:
         given = test_memory.with_layouts(test_memory.scripts()["rows are updated"].given)
         check = lambda wrote, refused: compare(statements(given), wrote, short=refused)
-        # (there are fewer calls than this number)
+        # a run has fewer calls for memory than this number, so none is refused
         which = {"from": test_memory.FOR_EVER, "to": test_memory.FOR_EVER}
         self.assert_finds(test_memory.run_once, ["script"], given, check, which)
 

@@ -1,4 +1,4 @@
-"""What `.ci/run` sums up, and when it fails: run in a folder whose steps are stand-ins."""
+"""The sums that `.ci/run` prints, and when it fails. It is run in a folder whose steps are stand-ins."""
 
 import pathlib
 import re

@@ -1,17 +1,17 @@
 """Runs the commands of README, the guide, docs/C.md and the pages of pages/, one check per section, and compares
 their output with what the page says.
 
-These fenced blocks of a page are run, those of a section in one shell, in a folder that has `events.csv`, `examples`,
-`python` and `lib`:
+The following kinds of fenced blocks are run. Those of a section run in one shell, in a folder that has `events.csv`,
+`examples`, `python` and `lib`:
 
     console   a line after `$ ` is a command for the shell; the lines up to the next `$ ` are its output
     pycon     a session of Python, as doctest reads it
     python    a program, which must succeed, followed by a block `text` if it writes something
     c         a program, which is written to rows.c
 
-In output `...` matches any text. `crackd` and the package are found, and the port 4000 of a server is replaced by a
-free one. A word `needs=NAME` after the kind of a block names what it can't be run without: a program on the path, a
-module of Python, or `library`, which `make lib` and `make lib-unproved` build. A section with a block that can't be run
+In output `...` matches any text. The shell finds `crackd` and the package, and port 4000 of a server is replaced by a
+free port. A word `needs=NAME` after the kind of a block names what the block can't be run without: a program on PATH, a
+Python module, or `library`, which `make lib` and `make lib-unproved` build. A section with a block that can't be run
 counts as skipped if its other blocks pass.
 """
 
@@ -37,7 +37,7 @@ SECONDS, PORT = 120, "4000"
 FENCE = re.compile(r"^```(\w+)(.*)\n((?:.*\n)*?)```$(?:\n+```text\n((?:.*\n)*?)```$)?", re.MULTILINE)
 COMMAND = re.compile(r"^\$ (.*\n(?:> .*\n)*)((?:(?!\$ ).*\n)*)", re.MULTILINE)
 END = "-- end of a command --"
-# what runs the program of a block, which the shell has put into a file
+# the command that runs a block's program, which the shell has written to a file
 PROGRAMS = {"python": "python3 block", "pycon": "python3 -m doctest -o ELLIPSIS block", "c": "mv block rows.c"}
 
 
@@ -84,11 +84,11 @@ def environment_for(program: str, folder: str) -> dict[str, str]:
     """An environment in which `crackd` is the program, and package and library are found, by files in a folder."""
     links = {"crackd": program, "crackd.h": TOP / "include" / "crackd.h"}
     for made in sorted((TOP / "lib").glob("libcrackd*.so")):
-        # (the proved one comes last)
+        # the proved library comes last, and so replaces the other
         links |= {"libcrackd.so": made, made.name: made}
     for name, target in links.items():
         (pathlib.Path(folder) / name).symlink_to(target)
-    # (README's `make run` answers statements, as the program does once it is built; other targets have built it)
+    # this `make run` only answers statements, as the built program does; other targets do nothing
     scripts = {"python3": f'exec {package.interpreter()} "$@"', "make": 'test "$1" != run || exec crackd script'}
     for name, script in scripts.items():
         path = pathlib.Path(folder) / name
@@ -96,7 +96,7 @@ def environment_for(program: str, folder: str) -> dict[str, str]:
         path.chmod(0o755)
     found = {it: folder for it in ("CPATH", "LIBRARY_PATH", "LD_LIBRARY_PATH")} | {"TOP": str(TOP)}
     found |= {"PATH": os.pathsep.join([folder, os.environ.get("PATH", "")]), "CRACKD": str(program)}
-    found |= {"PYTHONWARNINGS": "ignore:Port"}  # (Dask warns if another cluster has the port of its page)
+    found |= {"PYTHONWARNINGS": "ignore:Port"}  # Dask warns if another cluster has the port of its page
     return {**os.environ, **found, "PYTHONPATH": str(package.PACKAGE), "LC_ALL": "C.UTF-8"}
 
 
@@ -108,7 +108,7 @@ def wrote_in_shell(commands: list[str], folder: str, environment: dict[str, str]
         shell = subprocess.Popen(["bash"], cwd=folder, env=environment, text=True, **how)
         with contextlib.suppress(subprocess.TimeoutExpired):
             shell.communicate(script, SECONDS)
-        # (and whatever it left running)
+        # also ends whatever the shell left running
         with contextlib.suppress(ProcessLookupError):
             os.killpg(shell.pid, signal.SIGKILL)
         shell.wait()

@@ -1,18 +1,16 @@
-"""Histories of workers on threads: the answers that `crack_bench histories` prints are replayed.
+"""Histories of workers on threads: replays the answers that `crack_bench histories` prints.
 
-Its workers ask a table of three partitions, each on its own thread, and it prints each one's answers and receipts, and
-the histories. It must hold that there is one order of all entries that each history and each worker keeps; in that
-order the lists of plain_session.py give each reply; each worker's receipts are of the replies that it was given;
-refusals have their causes; and the totals are those of the histories. So whatever the schedule was, one thread could
-have answered the same. Each seed is tried under each policy, with checkpoints in between; by the seed histories get
-full, cells run out, or lives end. The line of a run says how often an entry follows one of another worker: that depends
-on the schedule, and is not checked.
+Its workers ask a table of three partitions, each on its own thread. It prints each worker's answers and receipts, and
+the histories. All of this must hold: there is one order of all entries that agrees with each history and with each
+worker's order; in that order the lists of plain_session.py give each reply; each worker's receipts are those of the
+replies that it got; refusals have their causes; and the totals are those of the histories. So whatever the schedule
+was, one thread could have answered the same. Each seed is tried under each policy, with checkpoints in between.
+Depending on the seed, histories get full, cells run out, or lives end. The line of a run says how often an entry
+follows one of another worker. That depends on the schedule, and is not checked.
 
-A checkpointed partition is printed with its base, `partition P folded N inserted I deleted D rows R` and R lines `P.S K
-V`, and then with the entries that it has kept since. The removed entries are those of the receipts at earlier places:
-each has exactly one, they are answered and ordered like all others, they lead to the base's rows and counts, and there
-are as many as all checkpoints of the partition reported. The texts of data/histories.txt pass, or are found to be
-wrong.
+A checkpointed partition is printed as `partition P folded N`, and then all its entries. Its last checkpoint came after
+N of them, and all its checkpoints together reported N entries. The texts of data/histories.txt must pass, or must be
+found to be wrong.
 """
 
 import collections
@@ -29,10 +27,8 @@ from plain_session import MOST_ENTRIES, POLICIES, Limits, Session, read_line
 SPLITS = [2**63, 2**64 - 1000]
 PARTS = range(len(SPLITS) + 1)
 WORKERS = 4
-# a section, which may have a base; and one of its statements, after numbers, with the lines of its reply
-SECTION = re.compile(
-    r"^(worker|receipts|partition) (\d+)(?: folded (\d+) inserted (\d+) deleted (\d+) rows (\d+))?\n", re.MULTILINE
-)
+# the head of a section, with its checkpointed entries if any; a statement in it, after numbers, with its reply's lines
+SECTION = re.compile(r"^(worker|receipts|partition) (\d+)(?: folded (\d+))?\n", re.MULTILINE)
 ENTRY = re.compile(r"^((?:\d+ )+)([a-z]+ .*)\n(.*(?:\n\d+\.\d+ .*)*)\n", re.MULTILINE)
 # the head of a text of data/histories.txt, or of a change to it: a name, how many statements there were, and limits
 HEAD = re.compile(r"(.*?)(?:: (\d+))?(?:[:,] (\w+ \d+.*))?\n")
@@ -70,30 +66,19 @@ class Receipt(typing.NamedTuple):
     asked: Asked
 
 
-class Base(typing.NamedTuple):
-    """What a checkpoint left: how many entries were removed, how many inserted or deleted a row, and lines of rows."""
-
-    folded: int = 0
-    inserted: int = 0
-    deleted: int = 0
-    rows: list[str] = []
-
-
 class Printed:
     """What a run printed: answers and receipts of each worker, a history for each partition, and the totals."""
 
     def __init__(self, text: str) -> None:
-        self.answers, self.receipts, self.histories, self.bases, self.totals = {}, {}, {}, {}, ""
+        self.answers, self.receipts, self.histories, self.folded, self.totals = {}, {}, {}, {}, ""
         sections = {"worker": self.answers, "receipts": self.receipts, "partition": self.histories}
         before, *parts = SECTION.split(text)
         expect("before the first section", "", before)
-        for name, number, *counts, body in zip(*(parts[it::7] for it in range(7))):
-            number, rows = int(number), int(counts.pop() or 0)
+        for name, number, folded, body in zip(*(parts[it::4] for it in range(4))):
+            number = int(number)
             expect(f"{name} {number}", None, sections[name].get(number))
             if name == "partition":
-                lines = body.splitlines()
-                self.bases[number] = Base(*(int(it or 0) for it in counts), lines[:rows])
-                body = "".join(f"{it}\n" for it in lines[rows:])
+                self.folded[number] = int(folded or 0)
             sections[name][number] = [self.entry(*it) for it in ENTRY.findall(body)]
             self.totals = ENTRY.sub("", body)
             if name != "partition" or number != PARTS[-1]:
@@ -117,36 +102,20 @@ def check_receipts(printed: Printed, statements: int) -> None:
         expect(f"receipts of worker {worker}", len(replies), len(receipts))
 
 
-def whole_history(printed: Printed, part: int) -> list[tuple[int, Asked]]:
-    """All that a partition answered: the removed entries, from the receipts, and those that it kept."""
-    folded = printed.bases[part].folded
-    went = [it for receipts in printed.receipts.values() for it in receipts if it.part == part]
-    went = sorted((it for it in went if it.position < folded), key=lambda it: it.position)
-    expect(f"partition {part}: places that were folded", list(range(folded)), [it.position for it in went])
-    return [(it.worker, it.asked) for it in went] + printed.histories[part]
-
-
-def check_bases(printed: Printed, histories: dict[int, list]) -> None:
-    """Each base is the result of the removed entries, and checkpoints reported as many entries as were removed."""
+def check_folded(printed: Printed) -> None:
+    """Checkpoints reported as many entries as each partition had at its last one."""
     counted = collections.Counter()
     for part, asked in (it for answers in printed.answers.values() for it in answers):
         if asked.is_checkpoint and not asked.is_refused:
             counted[part] += int(asked.lines[0].removeprefix("folded "))
-    for part, base in printed.bases.items():
-        went = [asked for _, asked in histories[part][: base.folded]]
-        rows = Session(SPLITS).parts[part]
-        for asked in went:
-            rows.answer(*read_line(asked.statement.encode()))
-        kinds = collections.Counter(asked.lines[0].split(" ")[0] for asked in went)
-        lines = [f"{part}.{serial} {key} {payload}" for serial, (key, payload) in sorted(rows.rows.items())]
-        wanted = counted[part], kinds["row"], kinds["gone"], lines, rows.next
-        expect(f"partition {part}: its base", wanted, (*base, base.inserted))
+    for part, folded in printed.folded.items():
+        expect(f"partition {part}: entries up to its last checkpoint", counted[part], folded)
 
 
-def in_one_order(printed: Printed, histories: dict[int, list]) -> list[Receipt]:
+def in_one_order(printed: Printed) -> list[Receipt]:
     """The receipts in an order that each worker's receipts and each history keep, if each belongs to its entry."""
     ahead = {worker: collections.deque(receipts) for worker, receipts in printed.receipts.items()}
-    entries = [[Receipt(part, place, *it) for place, it in enumerate(of)] for part, of in histories.items()]
+    entries = [[Receipt(part, place, *it) for place, it in enumerate(of)] for part, of in printed.histories.items()]
     left = [collections.deque(it) for it in entries]
     order, length = [], -1
     while length < len(order):
@@ -176,7 +145,8 @@ def check_replies(order: list[Receipt]) -> list:
 
 @dataclasses.dataclass
 class Lived:
-    """The final numbers of a partition: commands that it accepted, kept and was asked, and that its gate refused."""
+    """The final numbers of a partition: commands that it accepted, in all and since its last checkpoint, that it was
+    asked, and that its gate refused."""
 
     part: int
     limits: Limits
@@ -216,12 +186,12 @@ class Lived:
         self.gave_up += asked.lines[0] == "refused 7"
 
 
-def check_refusals(printed: Printed, histories: dict[int, list], limits: Limits) -> None:
+def check_refusals(printed: Printed, limits: Limits) -> None:
     """Refusals have their causes, limits hold, and the gate was asked once for each command."""
     lived = {part: Lived(part, limits) for part, _ in (it for found in printed.answers.values() for it in found)}
     for part in PARTS:
-        folded = printed.bases[part].folded > 0
-        lived[part] = Lived(part, limits, len(histories[part]), len(printed.histories[part]), folded)
+        accepted, folded = len(printed.histories[part]), printed.folded[part]
+        lived[part] = Lived(part, limits, accepted, accepted - folded, folded > 0)
     for answers in printed.answers.values():
         was = collections.defaultdict(set)
         for part, asked in answers:
@@ -230,7 +200,8 @@ def check_refusals(printed: Printed, histories: dict[int, list], limits: Limits)
             else:
                 lived[part].check(asked, was[part])
     for it in (lived[part] for part in PARTS):
-        if it.kept > limits.history or it.accepted > limits.life or it.gave_up != it.asked // REFUSED_BY_THE_GATE:
+        is_within = it.kept in range(limits.history + 1) and it.accepted <= limits.life
+        if not is_within or it.gave_up != it.asked // REFUSED_BY_THE_GATE:
             raise Wrong(f"a limit was passed, or the gate was asked otherwise: {it}")
 
 
@@ -240,17 +211,16 @@ def check(printed: Printed, workers: int, statements: int, limits: Limits) -> tu
     expect("workers", list(range(workers)), list(printed.answers))
     expect("workers with receipts", list(range(workers)), list(printed.receipts))
     check_receipts(printed, statements)
-    whole = {part: whole_history(printed, part) for part in PARTS}
-    order = in_one_order(printed, whole)
+    order = in_one_order(printed)
     rows = [len(it.rows) for it in check_replies(order)]
-    check_bases(printed, whole)
-    check_refusals(printed, whole, limits)
+    check_folded(printed)
+    check_refusals(printed, limits)
     if max(rows) > limits.cells:
         raise Wrong(f"partitions have {rows} rows, in at most {limits.cells} cells")
     kinds = collections.Counter(it.asked.lines[0].split(" ")[0] for it in order)
     totals = f"accepted {len(order)} inserted {kinds['row']} deleted {kinds['gone']} held {sum(rows)}"
     expect("totals", f"{totals}\n", printed.totals)
-    follows = sum(one[0] != two[0] for history in whole.values() for one, two in zip(history, history[1:]))
+    follows = sum(one[0] != two[0] for history in printed.histories.values() for one, two in zip(history, history[1:]))
     return len(order), follows
 
 

@@ -21,9 +21,9 @@ ODD_NUMBERS = (
     b"|-1|+1|1.0|0x1|1e3|1_0|\xb2|00000000000000000001|000000000000000000001|-|-0|--1|- 1|+-1|1-|-1.0|-1_0|-\xb2|"
     b"\xe2\x88\x921|00000000000000000000|000000000000000000000|-00000000000000000000|-000000000000000000000"
 ).split(b"|")
-WORDS = [it.encode() for it in [*FIELDS, "policy", *POLICIES]]
+WORDS = [it.encode() for it in [*FIELDS, "stats", "policy", *POLICIES]]
 ODD_WORDS = b"INSERT inser inserts insert1 row refused bye none checkpoints fold \xc3\xa9 \0 # --".split(b" ")
-# what is sometimes between words; and short lines
+# gaps between words; and lines without words
 GAPS = [b" "] * 12 + [b"  ", b"   ", b"\t", b"", b"\r"]
 SPACES = [b"", b" ", b"\r", b"\r\r", b" \r", b"\r ", b"\0", b"\x80", b" " * 200, b" " * 201, b" " * 200 + b"\r"]
 # requests of HTTP, each with statements in its body
@@ -65,7 +65,7 @@ def random_words(numbers: random.Random) -> list[bytes]:
     number = lambda: random_number(numbers)
     kind = numbers.choice(WORDS if numbers.random() < 0.95 else ODD_WORDS)
     row, payload = random_row(numbers), numbers.choice([b"", b"-"]) + number()
-    if kind in (b"layout", b"checkpoint"):
+    if kind in (b"layout", b"checkpoint", b"stats"):
         row = b"%d" % numbers.randrange(5) if numbers.random() < 0.7 else number()
     drawn = [row, number(), payload, number(), number(), numbers.choice(WORDS[-4:])]
     line = random_script.statement(*(it.decode("latin-1") for it in [kind, *drawn]))
@@ -171,7 +171,7 @@ class RandomScripts(fixtures.Case):
     def test_for_ever(self) -> None:
         """A script whose histories get full again and again is answered as if they had no limit."""
         given = random_script.random_text(random.Random(1), Session([100]), 500, 200)
-        given = b"".join(re.findall(rb"(?m)^(?!layout|checkpoint).*\n", given))
+        given = b"".join(re.findall(rb"(?m)^(?!layout|checkpoint|stats).*\n", given))
         answers, wanted = list(map(Session([100], Limits(20)).answer, statements(given))), replies(given, [100])
         self.assertIn(["refused 6 20"], answers)
         self.assertNotIn(b"refused 6", wanted)

@@ -1,10 +1,10 @@
-"""Memory that is refused to scripts, CSV, batches, servers and the sweeps of test programs, call by call.
+"""Refuses memory to scripts, CSV, batches, servers and the sweeps of test programs, call by call.
 
-Each call for memory in a run is refused in turn, from the first on until a run has none that is refused: the call
-alone; with the next three; with all later ones; and each by chance, one in fifty. The answers must be those of the
-lists of plain_session.py that never saw the statements refused with 8, and no more statements may be refused than calls
-were. A run may also end with 8 when the program opens the table; one of CSV anywhere, after a prefix of its text. A
-small library, c/refusing.c, refuses the calls; without a C compiler these checks are skipped.
+Each call for memory in a run is refused in turn, from the first on, until no call of a run is refused: the call alone;
+the call and the next three; the call and all later ones; and each call by chance, one in fifty. The answers must be
+those of the lists of plain_session.py that never saw the statements refused with 8. No more statements may be refused
+than calls were. A run may also end with 8 when the program opens the table, and a run of CSV anywhere, after a prefix
+of its text. A small library, c/refusing.c, refuses the calls; without a C compiler these checks are skipped.
 
 Each worker of a batch has its own partitions, so its replies are those of a list whatever the other threads do; the
 clients of a server come one after another. If a totals line is printed it must agree with the replies.
@@ -38,7 +38,7 @@ RANDOM_SWEEPS, WORKER_SWEEPS = 4, 2
 # runs that write one text: their command lines, and their input
 RECORDS = b"key,payload\n" + b"".join(b'%d,"%d"\n' % (key, key % 7 - 3) for key in range(0, 400, 9))
 TEXTS = {"csv": (["csv", "100", "200"], RECORDS), "help": (["script", "--help"], b"")}
-# which calls are refused in the run with a number
+# which calls the run with this number refuses
 WAYS = {
     "alone": lambda number: {"from": number, "to": number},
     "four": lambda number: {"from": number, "to": number + 3},
@@ -152,7 +152,7 @@ def check_random(program: str, way: str, seed: int) -> None:
     numbers = random.Random(seed)
     most = numbers.choice(random_script.KEYS)
     splits = random_script.random_splits(numbers, most, numbers.choice([0, 1, 3, 8, 15]))
-    # (if a range over several partitions is refused with 8, nothing reports which of them have kept their part)
+    # if a range over several partitions is refused with 8, nothing reports which of them have kept their part
     small = [Limits(STATEMENTS // 2), Limits(STATEMENTS // 10, 20, STATEMENTS // 2)]
     limits = Limits() if splits else numbers.choice([Limits(), *small])
     words = ["script", "--policy", numbers.choice(POLICIES), *limits.words(), *map(str, splits)]
@@ -166,7 +166,7 @@ def own_statement(numbers: random.Random, parts: list[Part]) -> str:
     """A random statement that asks only these neighbouring partitions."""
     low, high, part = parts[0].low, parts[-1].high, numbers.choice(parts)
     kind, key = random_script.kind_of(numbers, KINDS), numbers.randrange(low, min(high, low + 300))
-    # (an empty range at the end of these partitions would ask the next one)
+    # an empty range at the end of these partitions would ask the next one
     first, last = sorted(numbers.choice([low, key, parts[-1].low, high]) for _ in range(2))
     first = first if first < high else low
     row, payload = f"{part.number}.{numbers.randrange(part.next + 2)}", random_script.random_payload(numbers)
@@ -205,7 +205,9 @@ def check_batch(texts: list[bytes], wrote: bytes, refused: int) -> None:
 def sweep_batch(program: str, way: str, seed: int) -> None:
     """Sweeps in one way over the batch of a seed. If all calls from one on are refused, it must end with 8."""
     texts = worker_texts(seed)
-    words = ["batch", "--workers", WORKERS, "--policy", POLICIES[seed % len(POLICIES)], *SPLITS]
+    # half of the batches keep receipts
+    audit = ["--audit"] if seed // 2 % 2 else []
+    words = ["batch", "--workers", WORKERS, *audit, "--policy", POLICIES[seed % len(POLICIES)], *SPLITS]
 
     def check(wrote: bytes, refused: int) -> None:
         expect("calls that were refused though it ended well", 0, refused if way == "all" else 0)
@@ -229,7 +231,7 @@ def check_served(texts: list[bytes], got: list[bytes], ended: fixtures.Ended, re
     """Checks the answers to a server's sessions, and how it ended."""
     session, counts, (status, wrote, complained) = Session(SPLITS), collections.Counter(), ended
     for text, replies in zip(texts, got):
-        # (a session without memory for its replies ends before it answers; so does one whose server ends)
+        # a session without memory for its replies ends before it answers; so does one whose server ends
         if replies or not refused:
             counts += compare(statements(text), replies, session, refused, may_be_first=True).counts
     if (status, complained) == (1, REFUSED.decode()) and refused:

@@ -1,14 +1,16 @@
-"""Servers with many clients, and servers that stop when their input ends, or let a silent client go.
+"""Servers with many clients, and servers that stop when their input ends, or disconnect a silent client.
 
-The expected results are from docs/SPECIFICATION.md. The answers to clients one after the other are in
-cases/clients.cases and cases/ends.cases, batches at their bounds in pages/bounds.txt.
+The expected results are from docs/SPECIFICATION.md. The answers to clients one after another are in
+cases/clients.cases and cases/ends.cases, and batches at their bounds in pages/bounds.txt.
 """
 
 import contextlib
 import datetime
 import os
+import pathlib
 import re
 import resource
+import select
 import signal
 import time
 import typing
@@ -18,20 +20,42 @@ import fixtures
 from fixtures import Client, Server, all_at_once, expect, serving, side_by_side
 from plain_session import MOST
 
-# what fits into the buffer of a connection on its way to the server
+# how many bytes fit into the buffers of a connection to the server
 ARRIVED = 3_000
 ALL = f"count 0 {MOST}"
-# how many clients there are at once: a thousand in all; and with how many rows an honest one works
+# how many clients there are at once, a thousand in all (`HOSTILE` of five kinds each); and the rows of an honest one
 HONEST, SILENT, DEAF, HOSTILE, ROWS = 300, 180, 20, 100, 5
+# how many honest clients come while no descriptor is free; and the processor seconds that a server may use then
+LATE, AT_REST = 50, 0.2
 # how many descriptors a server has, and how many clients it has at once
 DESCRIPTORS, CLIENTS = 32, 100
+# how many threads share clients that come at once, and how many of these are one thread's share
+THREADS, CROWD = 4, 100
+NO_ACCEPT = re.compile(r"crackd: accepts that failed: (\d+): descriptors may have run out")
 TOO_MANY = re.compile(r"crackd: (?:client|(\d+) clients, the last) 127\.0\.0\.1:\d+: refused 20 2: .+")
+# the names of the numbers of a table or a partition, and those that a server adds
+NUMBERS = ["rows", "pending_insertions", "pending_deletions", "pieces", "cells", "free_cells"]
+NUMBERS += ["commands_accepted", "commands_since_checkpoint"]
+OF_A_SERVER = ["clients", "sessions", "statements_per_second", "longest_microseconds", "uptime_seconds"]
 CAUSES = {
     "write failed": "refused 18: the connection was closed or failed at a write",
     "silent": "refused 17: the client sent nothing for too long",
     "deaf": "refused 18: the client took no replies for too long",
     "stopped": "refused 18: the server stopped before the client took its replies",
 }
+
+
+def numbers(lines: list[str]) -> dict[str, int]:
+    """The numbers of a reply to `stats`, by their names."""
+    expect("the first line of numbers", f"stats {len(lines) - 1}", lines[0])
+    return {name: int(number) for name, number in (line.split(" ") for line in lines[1:])}
+
+
+def watched(process: int) -> list[list[str]]:
+    """The sources of each epoll instance of a process, as Linux lists them."""
+    listed = [it.read_text(encoding="ascii") for it in pathlib.Path(f"/proc/{process}/fdinfo").iterdir()]
+    sources = ([line for line in it.splitlines() if line.startswith("tfd:")] for it in listed)
+    return [it for it in sources if it]
 
 
 def cut_off(client: Client, cause: str) -> str:
@@ -70,8 +94,10 @@ def push(client: Client, text: str) -> None:
     client.socket.setblocking(True)
 
 
-def work(client: Client, low: int) -> list[int]:
-    """Inserts rows with keys from here on, asks for them, and deletes one. Returns their serials."""
+def work(client: Client, low: int, is_late: bool) -> list[int]:
+    """Inserts rows with keys from here on, asks for them, and deletes one. Returns their serials. A late client first
+    takes the reply that it awaits."""
+    expect("the first reply", ["refused 5"] * is_late, client.reply() if is_late else [])
     keys, serials = range(low, low + ROWS), []
     for number, key in enumerate(keys, 1):
         [reply] = client.answer(f"insert {key} -{key}")
@@ -90,15 +116,35 @@ def work(client: Client, low: int) -> list[int]:
 WORKED = (2 * ROWS + 4, ROWS, 1, ROWS - 1)
 
 
+def processor_seconds(process: int) -> float:
+    """How many seconds of processors a process has taken."""
+    words = pathlib.Path(f"/proc/{process}/stat").read_text(encoding="ascii").rpartition(")")[2].split()
+    return (int(words[11]) + int(words[12])) / os.sysconf("SC_CLK_TCK")
+
+
 class Crowd:
     """A thousand clients of a server, most of them bad ones, which are all connected at once."""
 
     def __init__(self, port: int, stack: contextlib.ExitStack) -> None:
-        def come(many: int, room: int | None = None) -> list[Client]:
-            return [stack.enter_context(Client(port, room)) for _ in range(many)]
+        self.port, self.stack, self.late = port, stack, []
+        self.slow, self.flooding, self.resetting, self.half_closed, self.http = (self.come(HOSTILE) for _ in range(5))
+        self.deaf, self.silent, self.honest = self.come(DEAF, 4096), self.come(SILENT), self.come(HONEST)
 
-        self.slow, self.flooding, self.resetting, self.half_closed, self.http = (come(HOSTILE) for _ in range(5))
-        self.deaf, self.silent, self.honest = come(DEAF, 4096), come(SILENT), come(HONEST)
+    def come(self, many: int, room: int | None = None) -> list[Client]:
+        return [self.stack.enter_context(Client(self.port, room)) for _ in range(many)]
+
+    def come_in_vain(self, server: int) -> None:
+        """Leaves the server, a process, no descriptor for more clients, has some come, and sees that it rests."""
+        expect("whether all are connected", True, is_served(self.port))
+        _, most = resource.prlimit(server, resource.RLIMIT_NOFILE)
+        last = max(map(int, os.listdir(f"/proc/{server}/fd")))
+        resource.prlimit(server, resource.RLIMIT_NOFILE, (last + 1, most))
+        self.late, before, replies = self.come(LATE), processor_seconds(server), select.poll()
+        for it in self.late:
+            it.send("layout 1\n")
+            replies.register(it.socket, select.POLLIN)
+        expect("replies within a second", [], replies.poll(1000))
+        expect("whether the server rests", True, processor_seconds(server) - before < AT_REST)
 
     def misbehave(self) -> None:
         """Requests much and reads nothing, floods, sends requests of HTTP, and resets. None of it changes a total."""
@@ -130,15 +176,19 @@ class Crowd:
             expect("a half-closed client's counts", "count 0\n" * 1_001, it.lines.read())
 
     def be_honest(self) -> list[int]:
-        """Has the honest clients work, many at a time. Returns the serials of all their rows."""
-        groups = [list(enumerate(self.honest, 1))[first::20] for first in range(20)]
-        done = all_at_once(lambda group: [serial for number, it in group for serial in work(it, 100 * number)], groups)
+        """Has the honest clients work, many at a time, the late ones last. Returns the serials of all their rows."""
+        groups = [list(enumerate(self.honest + self.late, 1))[first::20] for first in range(20)]
+
+        def work_all(group: list[tuple[int, Client]]) -> list[int]:
+            return [serial for number, it in group for serial in work(it, 100 * number, it in self.late)]
+
+        done = all_at_once(work_all, groups)
         return [serial for serials in done for serial in serials]
 
     def totals(self) -> typing.Iterator[int]:
         """The totals that the replies come to."""
         reads = len(self.slow) + 1_001 * len(self.half_closed)
-        return (of * len(self.honest) + more for of, more in zip(WORKED, (reads, 0, 0, 0)))
+        return (of * len(self.honest + self.late) + more for of, more in zip(WORKED, (reads, 0, 0, 0)))
 
 
 class Servers(fixtures.Case):
@@ -147,7 +197,7 @@ class Servers(fixtures.Case):
     def test_one_reads_no_reply(self) -> None:
         """A client that sends until nothing more is taken, and reads no reply, holds up no other."""
         with serving(self.program, (2, 1, 0, 1), 1, 2) as port, Client(port) as stuck:
-            # (none of these lines is kept in a history, however many are read)
+            # none of these lines is kept in a history, however many are read
             fill(stuck, "nonsense\n" * 10000)
             with Client(port) as it:
                 it.ask("insert 1 10", "row 0.0")
@@ -163,7 +213,7 @@ class Servers(fixtures.Case):
             with Client(server.port) as held:
                 held.ask("insert 1 1", "row 0.0")
                 few, most = resource.prlimit(number, resource.RLIMIT_NOFILE)
-                # (what is open stays open, and there is no other descriptor)
+                # open descriptors stay open, and no other one can be opened
                 resource.prlimit(number, resource.RLIMIT_NOFILE, (3, most))
                 with Client(server.port) as it:
                     it.send(f"{ALL}\n")
@@ -190,24 +240,53 @@ class Servers(fixtures.Case):
             server.close()
             server.wait((2 * CLIENTS, CLIENTS, 0, CLIENTS))
 
-    def test_a_thousand_clients(self) -> None:
+    def see_a_thousand_clients(self, prepare: typing.Callable[[Server, Crowd], None]) -> list[str]:
         """Beside silent, deaf, slow, flooding, resetting and half-closed clients and those of HTTP each honest one gets
-        the right replies, and the totals are what the replies say."""
+        the right replies, and the totals are what the replies say. Returns the lines of the log."""
         few, most = resource.getrlimit(resource.RLIMIT_NOFILE)
         resource.setrlimit(resource.RLIMIT_NOFILE, (most, most))
         self.addCleanup(resource.setrlimit, resource.RLIMIT_NOFILE, (few, most))
-        with Server(self.program, 4, "--until-eof", "--quiet", "--drain", "1", "--policy", "auto") as server:
+        with Server(self.program, 4, "--until-eof", "--drain", "1", "--policy", "auto") as server:
             with contextlib.ExitStack() as stack:
                 crowd = Crowd(server.port, stack)
+                prepare(server, crowd)
                 acts = [crowd.be_honest, crowd.send_slowly, crowd.end_halves, crowd.misbehave]
                 serials, *_ = all_at_once(lambda act: act(), acts)
-                expect("serials", list(range(HONEST * ROWS)), sorted(serials))
+                expect("serials", list(range(ROWS * len(crowd.honest + crowd.late))), sorted(serials))
                 for it in crowd.http:
                     expect("a reply to HTTP", "refused 1\n", it.lines.read())
                 for it in crowd.silent:
                     it.ask("layout 1", "refused 5")
                 server.close()
-                server.wait(list(crowd.totals()))
+                status, wrote, log = server.ended()
+        totals = "accepted {} inserted {} deleted {} held {}\n".format(*crowd.totals())
+        expect("status and totals", (0, totals), (status, wrote))
+        return log.splitlines()
+
+    def test_a_thousand_clients(self) -> None:
+        log = self.see_a_thousand_clients(lambda server, crowd: None)
+        expect("lines about failed accepts", [], [it for it in log if NO_ACCEPT.fullmatch(it)])
+
+    def test_no_descriptor_beside_a_thousand_clients(self) -> None:
+        """The same where no descriptor is free for more clients: those that are connected don't notice it, the server
+        rests, its log tells it once a second, and those that came then are served once others have left."""
+        began = time.monotonic()
+        log = self.see_a_thousand_clients(lambda server, crowd: crowd.come_in_vain(server.process.pid))
+        found = [it for it in log if NO_ACCEPT.fullmatch(it)]
+        self.assertTrue(found)
+        self.assertLessEqual(len(found), time.monotonic() - began + 2)
+
+    def test_connections_are_spread_over_the_threads(self) -> None:
+        """Clients that come at once are divided among the threads, by the sources that each thread waits for."""
+        with Server(self.program, THREADS, "--until-eof", "--quiet") as server, contextlib.ExitStack() as stack:
+            clients = [stack.enter_context(Client(server.port)) for _ in range(THREADS * CROWD)]
+            for it in clients:
+                it.ask("ping", "pong")
+            # a thread also waits for the listener and for its waker
+            each = [len(it) - 2 for it in watched(server.process.pid)]
+            expect("threads, and connections", (THREADS, len(clients)), (len(each), sum(each)))
+            self.assertLessEqual(max(each), CROWD * 3 / 2, each)
+            server.close()
 
     def test_too_many_clients(self) -> None:
         """One client more than there may be is refused, and one has a place once another has left. The log has each
@@ -232,6 +311,36 @@ class Servers(fixtures.Case):
         expect("refused clients", refused, sum(int(it[1] or 1) for it in found))
         self.assertLessEqual(len(found), time.monotonic() - began + 2)
 
+    def test_numbers_of_a_server(self) -> None:
+        """A server tells its numbers after those of its table, and leaves them out where a partition is asked for."""
+        with serving(self.program, (104, 103, 0, 103), 2, 3, "50") as port:
+            with Client(port) as it, Client(port) as other:
+                other.ask("insert 60 1", "row 1.0")
+                it.send(inserts(100))
+                placed = [f"row 0.{it}" for it in range(50)] + [f"row 1.{it}" for it in range(1, 51)]
+                expect("inserts", placed, [it.reply()[0] for _ in range(100)])
+                it.ask("insert 1 1", "row 0.50")
+                until = time.monotonic() + 60
+                while numbers(it.answer("stats"))["statements_per_second"] == 0:
+                    self.assertLess(time.monotonic(), until, "statements aren't counted")
+                    time.sleep(0.1)
+                told = numbers(it.answer("stats"))
+                expect("names", [*NUMBERS, *OF_A_SERVER], list(told))
+                expect("rows, clients and sessions", (102, 2, 2), (told["rows"], told["clients"], told["sessions"]))
+                self.assertTrue(0 < told["longest_microseconds"] < 60_000_000, told)
+                self.assertTrue(told["uptime_seconds"] <= 60, told)
+                part = numbers(it.answer("stats 1"))
+                expect("names for a partition", NUMBERS, list(part))
+                expect("its rows and commands", (51, 51), (part["rows"], part["commands_accepted"]))
+                other.end()
+                with Client(port) as third:
+                    third.ask("insert 2 1", "row 0.51")
+                    told = numbers(third.answer("stats"))
+                    expect("clients and sessions", (2, 3), (told["clients"], told["sessions"]))
+                    third.ask("count 0 1", "count 1")
+                    third.end()
+                it.end()
+
     def test_lines_have_times(self) -> None:
         """Each line of a server's log begins with the time in UTC, by RFC 3339."""
         now = lambda: datetime.datetime.now(datetime.timezone.utc).replace(microsecond=0)
@@ -253,7 +362,7 @@ class Servers(fixtures.Case):
                 one.ask("insert 5 50", "row 0.0")
                 it.close()
                 one.is_at_end()
-                # (a client that comes before the server has noticed the end is still served)
+                # a client that comes before the server has noticed the end is still served
                 others = sum(1 for _ in iter(lambda: is_served(it.port), False))
             it.wait((1, 1, 0, 1), *it.notes(1 + others))
 
@@ -323,7 +432,7 @@ class Servers(fixtures.Case):
                 one.ask("insert 1 1", "row 0.0")
                 other.ask("insert 2 2", "row 0.1")
                 time.sleep(1.8)
-                # (a session that is still open ends well here)
+                # a session that was still open would end normally here
                 one.sends_no_more()
                 other.sends_no_more()
                 one.is_at_end()

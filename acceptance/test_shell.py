@@ -22,7 +22,7 @@ from run_cases import SHELL, SHELL_ENVIRONMENT
 
 PROMPT = "crackd> "
 TIME = r"  \([0-9.]+ m?s\)\n"
-# (for a machine that is slow for a moment)
+# the line of progress, which appears if the machine is slow for a moment
 PROGRESS = "(?:\r.*)?"
 EVERYTHING = f"0 {MOST}"
 SERVED = r"^crackd on port \d+; .*\n"
@@ -147,7 +147,7 @@ class Typed(fixtures.Case):
             shell.wait_for("^insert 1 ")
             shell.type(CONTROL_C)
             if not shell.read(5):
-                # (one that comes just before the shell waits for a line is noticed with the next)
+                # a control-C just before the shell waits for a line is noticed only with the next line
                 shell.type(CONTROL_C)
             shell.wait_for("^.*\n")
             shell.ask(f"count {EVERYTHING}", "count 0" + TIME)
@@ -160,7 +160,7 @@ class Typed(fixtures.Case):
             with contextlib.suppress(OSError), open(path, "w") as file:
                 while True:
                     file.write("7,1\n" * 1000)
-                    # (so that the history isn't full too soon)
+                    # so that the history isn't full too soon
                     time.sleep(0.01)
 
         with talking("--program", self.program) as (shell, folder):
@@ -195,7 +195,7 @@ class Typed(fixtures.Case):
                 shell.expect_end(0)
             with talking("--program", self.program, **how) as (shell, _):
                 shell.wait_for(f"^{PROMPT}")
-                # (four lines up)
+                # control-P, four lines up
                 shell.type("\x10" * 4 + "\n")
                 shell.wait_for(r"count 0 10[ \x08]*\ncount 0" + TIME)
                 shell.leave(1, 0, 0, 0)
