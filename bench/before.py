@@ -27,7 +27,7 @@ from table import WIDTH
 
 NAMES = ["crackd", "crack_bench"]
 
-# what a figure in a unit is divided by: times are in nanoseconds
+# the divisor of figures for each unit; times are measured in nanoseconds
 UNITS = {"ms": 1e6, "M": 1e6, "": 1}
 
 
@@ -35,14 +35,14 @@ UNITS = {"ms": 1e6, "M": 1e6, "": 1}
 class Thing:
     """What is measured in one run."""
 
-    # what is reported, and the names of the figures that are added for it
+    # the reported lines, each with the names of the figures whose sum it is
     lines: list
-    # measures programs once: returns what they wrote, if that must be the same, and figures by name
+    # measures programs once; returns what they wrote, if that must be the same, and their figures by name
     measure: typing.Callable
     unit: str = "ms"
-    # whether its figures are the same each time
+    # whether the figures are the same each time
     is_exact: bool = False
-    # what programs answer, if that is compared once
+    # returns what programs answer, if that is compared only once
     answer: typing.Callable = None
     # arguments with which crack_bench ends soon, if it knows them
     probe: list = None

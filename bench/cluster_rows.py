@@ -1,9 +1,9 @@
 """Measures a table on a Dask cluster, and writes the times into docs/CLUSTER.md: cluster_rows.py [ROWS [RUNS]]
 
 It compares the same rows in a `crackd.cluster.Table` over four worker processes of this machine, in a `crackd.Table` of
-one process, and in a dask.dataframe on the same workers, without an index. All run in turn, and start again in each
-run. It prints the least seconds of each step; all must give the same answers. The page is written only for the number
-of rows that it names. It needs numpy, pandas and Dask, and libcrackd.so.
+one process, and in a dask.dataframe without an index on the same workers. All take turns, and start anew in each run.
+It prints the least seconds of each step; all must give the same answers. The page is written only for the number of
+rows that it names. It needs numpy, pandas, Dask and libcrackd.so.
 """
 
 import pathlib

@@ -12,7 +12,7 @@ import sorted_set
 from inputs import random_counts, random_insert_lines, script
 from of_crackd import bytes_a_row, csv_and_script
 from of_workers import asking_times, gathering_times, worker_times
-from programs import BENCH, CRACKD, PEERS, answers, compare, middle_of, middles, over_tcp
+from programs import BENCH, CRACKD, PEERS, answers, compare, middle_of, middles, over_tcp, rounds
 
 
 def loading(runs):
@@ -36,9 +36,14 @@ def counts_after_a_load(runs):
         "again": [*warm_up, *counts, *(counts * sizes.REPEATS)],
     }
     pairs = [([CRACKD, "script"], script(f"after-a-load-{name}", [*lines, *more])) for name, more in given.items()]
-    load, cold, warmed, warm, again = middles(pairs, runs)
-    each = {"cold": cold - load, "warm": warm - warmed, "again": (again - warm) / sizes.REPEATS}
-    return {"load": load, "warm-up": warmed - load, **{name: seconds / sizes.RANGES for name, seconds in each.items()}}
+
+    def differences(load, cold, warmed, warm, again):
+        each = {"cold": cold - load, "warm": warm - warmed, "again": (again - warm) / sizes.REPEATS}
+        whole = {"load": load, "warm-up": warmed - load}
+        return {**whole, **{name: seconds / sizes.RANGES for name, seconds in each.items()}}
+
+    found = [differences(*times) for times in rounds(pairs, runs)]
+    return {name: statistics.median(it[name] for it in found) for name in found[0]}
 
 
 def worker_rates(runs):
@@ -61,12 +66,13 @@ def lookup_contest(runs):
     keys = [key for key, _ in random.Random(3).choices(rows, k=lookups)]
     front, counts = [*lines, f"count {sizes.EVERYTHING}"], [f"count {key} {key + 1}" for key in keys]
     crackd, source = [CRACKD, "script"], script("whole", [*front, *counts])
-    before, whole = middles([(crackd, script("front", front)), (crackd, source)], runs)
+    times = rounds([(crackd, script("front", front)), (crackd, source)], runs)
+    ours = statistics.median(whole - before for before, whole in times)
     theirs, wanted = report.sqlite_lookups(rows, keys, runs)
     if answers(crackd, source).split()[-2 * lookups + 1 :: 2] != [str(count).encode() for count in wanted]:
         sys.exit("crackd and SQLite don't count the same")
     return report.Contest(
-        f"each of {lookups} counts of one key", (whole - before) / lookups, "SQLite with an index", theirs / lookups
+        f"each of {lookups} counts of one key", ours / lookups, "SQLite with an index", theirs / lookups
     )
 
 
@@ -188,25 +194,22 @@ def set_contests(runs):
     return [report.Contest(what, ours, "a Redis sorted set", theirs) for what, (ours, theirs) in both]
 
 
-def steps(program, kind, words):
+def steps(policy, words):
     """How many rows a run of merges put in, took out, evicted, moved and pulled, in millions: the same in each run."""
-    ran = subprocess.run([program, words[0], kind, *map(str, words[1:])], capture_output=True, text=True, check=True)
+    ran = subprocess.run([BENCH, words[0], policy, *map(str, words[1:])], capture_output=True, text=True, check=True)
     counted = dict(line.split() for line in ran.stderr.splitlines())
     return sum(int(counted[name]) for name in of_bench.WORK) / 1e6
 
 
-def moves(program, kind="{}"):
+def moves():
     """The steps that rows take under each policy: while all rows are pending, and with deletes and inserts before each
     sum."""
     words = {
         f"{sizes.RANGES} sums, all rows pending": ["cold", sizes.PART_ROWS, sizes.RANGES],
         f"{sizes.RANGES} sums, 10 deletes and inserts before each": ["updates", sizes.PART_ROWS, sizes.RANGES, 10],
     }
-    return {
-        f"{policy}: {what}": steps(program, kind.format(policy), it)
-        for what, it in words.items()
-        for policy in [*sizes.POLICIES, "auto"]
-    }
+    every = [*sizes.POLICIES, "auto"]
+    return {what: {name: steps(name, it) for name in every} for what, it in words.items()}
 
 
 def write_report(folder, runs):
@@ -215,7 +218,7 @@ def write_report(folder, runs):
     workers = (worker_rates(runs), (asking_times(runs), gathering_times(runs)))
     measured = (
         bytes_a_row(CRACKD),
-        moves(BENCH),
+        moves(),
         loading(runs),
         counts_after_a_load(runs),
         *workers,

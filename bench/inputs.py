@@ -163,8 +163,8 @@ class Batch:
             Mix(worker).statements(sizes.PARTS_EACH * sizes.WORKER_ROWS, sizes.WORKER_STEPS) for worker in range(most)
         )
         self.rounds = list(zip(*mixes))
-        # (numbers are taken modulo the workers, so one worker has all lines of the same file, and each of two has half
-        # of them)
+        # worker numbers are taken modulo the number of workers, so with the same file one worker has all lines, and
+        # each of two workers has half of them
         self.source = script(
             "batch", (f"{worker} {line}" for lines in self.rounds for worker, line in enumerate(lines))
         )

@@ -7,11 +7,11 @@ import sys
 import sizes
 from programs import BENCH, PEERS, compare, in_turn, middle_of
 
-# what merges did, by the names under which it is reported
+# the work of merges, by the names under which it is reported
 WORK = ["put_in", "taken_out", "evicted", "moved", "pulled"]
 
 FAST = "a cracker column for speed alone"
-# (once all rows are in the column, the policy changes nothing)
+# once all rows are in the column, the policy changes nothing
 FAST_KIND = "fast-gradual"
 
 
@@ -37,7 +37,7 @@ def beside(word, kinds, numbers, runs):
 
 
 def measure_counts(table, runs):
-    # (those that are compared are adjacent, and far from the passes over all rows, which disturb what runs after them)
+    # kinds that are compared run one after another, and far from the passes over all rows, which disturb what follows
     kinds = ["rows", "inline", "pairs", FAST_KIND, "gradual"]
     rows, inline, pairs, fast, same, ours = beside("counts", kinds, [sizes.PART_ROWS, sizes.RANGES], runs)
     for what, names in (
@@ -214,7 +214,7 @@ def measure_policies(table, runs):
         table.line(f"auto: {what}, beside {best}, the best of the others", times["auto"], times[best], 1.1)
 
 
-# what a step belongs to, the command that takes steps, and the name of their number
+# what the steps belong to, the command that takes them, and the name of their number
 STEPS = [("a carry", "merge", "moved"), ("a pull", "pulls", "pulled")]
 
 

@@ -34,7 +34,7 @@ from programs import (
     session_seconds,
 )
 
-# how many times as much the greatest number of workers of a batch does as one does, by the least number of processors
+# the least gain of a batch with the most workers over one with one worker, by the least number of processors
 BATCH_GAINS = {4: 2.2, 2: 1.4}
 
 
@@ -181,8 +181,8 @@ def measure_splits(table, _runs):
 
 # the lines after the inserts, by where the rows then are, which memory is read, and how many bytes a row may take
 HELD = {
-    "pending": ([], "VmHWM", 125),
-    "in the column": ([f"count {sizes.EVERYTHING}"], "VmRSS", 125),
+    "pending": ([], "VmHWM", 100),
+    "in the column": ([f"count {sizes.EVERYTHING}"], "VmRSS", 110),
     "in the column, while they were put in": ([f"count {sizes.EVERYTHING}"], "VmHWM", 160),
     "pending, after a checkpoint": (["checkpoint 0"], "VmRSS", 125),
     "in the column, after a checkpoint": ([f"count {sizes.EVERYTHING}", "checkpoint 0"], "VmRSS", 125),

@@ -16,7 +16,7 @@ PAGE = TOP / "docs" / "PYTHON.md"
 BEGIN, END = "<!-- times: bench/run.py python -->\n", "<!-- end of times -->\n"
 SHARDS_BEGIN, SHARDS_END = "<!-- shards: bench/run.py shards -->\n", "<!-- end of shards -->\n"
 SORTED, MASKS, SQLITE = "numpy, sorted", "numpy, masks", "SQLite, a covering index"
-# what is reported of each step, by its name
+# the text that is reported for each step, by its name
 STEPS = {
     "load": "load, in order where there is one",
     "counts": "{ranges} counts of new ranges of 1 %",
@@ -25,9 +25,9 @@ STEPS = {
     "select": "a select of {selected} rows",
     "step": "10 deletes, 10 inserts and a sum",
 }
-# (what is bounded, compared with what, and by which part of it)
+# bounds of ratios: a step, what it is compared with, and the greatest ratio
 RATIOS = [("load", SQLITE, 0.35), ("step", SORTED, 0.12), ("counts", MASKS, 0.03)]
-# the most nanoseconds
+# bounds in nanoseconds
 MOST = [
     ("warm count", "a count of a range that was asked before, nanoseconds", 6000),
     ("warm count of many", "the same, many in a call", 2500),

@@ -56,56 +56,55 @@ def measure_gathering(table, runs):
 
 
 def asking_times(runs):
-    """What an insert and a statement of the steps take a worker with receipts, and one whose table witnesses its
-    replies, in seconds."""
+    """What an insert and a statement of the steps take a worker with receipts, and one without an audit, in seconds."""
     rows, steps = sizes.WORKER_ROWS, sizes.WORKER_STEPS
     words = ["ask", str(rows), str(steps)]
-    both = compare([[*WORKERS, *words], [*WORKERS, "witnessed", *words]], runs)
+    both = compare([[*WORKERS, *words], [*WORKERS, "unaudited", *words]], runs)
     parts = {"an insert": ("load", 2 * rows), "a statement, half of them sums": ("work", 4 * steps)}
     return {what: [middle_of(it, name) / count for it in both] for what, (name, count) in parts.items()}
 
 
 def gathering_times(runs):
     """What gathering takes after this many commands, in seconds: of workers with receipts, whose partitions are then
-    dropped, and of witnessed ones, before that."""
+    dropped, and of those without an audit, before that."""
     workers, times = str(sizes.GATHER_WORKERS), {}
-    for rows in sizes.WITNESSED_ROWS:
-        booked, witnessed = compare(
-            [[*WORKERS, *kind, "gathered", workers, str(rows)] for kind in ([], ["witnessed"])], runs
+    for rows in sizes.UNAUDITED_ROWS:
+        audited, unaudited = compare(
+            [[*WORKERS, *kind, "gathered", workers, str(rows)] for kind in ([], ["unaudited"])], runs
         )
-        times[2 * sizes.GATHER_WORKERS * rows] = [middle_of(booked, "gather"), middle_of(witnessed, "settle")]
+        times[2 * sizes.GATHER_WORKERS * rows] = [middle_of(audited, "gather"), middle_of(unaudited, "settle")]
     return times
 
 
-def measure_witnessed_asking(table, runs):
-    for what, (booked, witnessed) in asking_times(runs).items():
-        table.step(f"{what}, by a witnessed worker, beside one with receipts", witnessed, booked, 1.05)
+def measure_unaudited_asking(table, runs):
+    for what, (audited, unaudited) in asking_times(runs).items():
+        table.step(f"{what}, without an audit, beside a worker with receipts", unaudited, audited, 1.05)
 
 
-def measure_witnessed_workers(table, runs):
-    """How witnessed workers with their own partitions scale, compared with those with receipts."""
+def measure_unaudited_workers(table, runs):
+    """How workers without an audit scale, each with its own partitions, compared with those with receipts."""
     words = [["own", str(workers), str(sizes.WORKER_ROWS), str(sizes.WORKER_STEPS)] for workers in sizes.WORKER_COUNTS]
-    each = [compare([[*WORKERS, "witnessed", *it], [*WORKERS, *it]], runs) for it in words]
+    each = [compare([[*WORKERS, "unaudited", *it], [*WORKERS, *it]], runs) for it in words]
     times = [[middle_of(it, "work") for it in both] for both in each]
     for workers, both in zip(sizes.WORKER_COUNTS[1:], times[1:]):
         ours, theirs = (workers * alone / it for alone, it in zip(times[0], both))
-        table.gain(f"gain of {workers} witnessed workers, beside those with receipts", ours, theirs, 0.9)
+        table.gain(f"gain of {workers} workers without an audit, beside those with receipts", ours, theirs, 0.9)
 
 
-def measure_witnessed_gathering(table, runs):
-    for commands, (_, witnessed) in gathering_times(runs).items():
+def measure_unaudited_gathering(table, runs):
+    for commands, (_, unaudited) in gathering_times(runs).items():
         table.line(
-            f"gathering {sizes.GATHER_WORKERS} witnessed workers after {commands} commands, beside a millisecond",
-            witnessed,
+            f"gathering {sizes.GATHER_WORKERS} unaudited workers after {commands} commands, beside a millisecond",
+            unaudited,
             1e-3,
             1.0,
         )
 
 
-WITNESSED = [measure_witnessed_asking, measure_witnessed_workers, measure_witnessed_gathering]
+UNAUDITED = [measure_unaudited_asking, measure_unaudited_workers, measure_unaudited_gathering]
 MEASURES = {
     "workers": [measure_workers],
     "asking": [measure_asking],
     "gathering": [measure_gathering],
-    "witnessed": WITNESSED,
+    "unaudited": UNAUDITED,
 }

@@ -64,10 +64,15 @@ def session_seconds(words, source, clock=processor_seconds):
     return clock() - before
 
 
+def rounds(pairs, runs, clock=time.perf_counter):
+    """Runs programs on files, given as pairs of arguments and a file, in turn, so many times. Returns the times of each
+    round."""
+    return [[session_seconds(*pair, clock) for pair in pairs] for _ in range(runs)]
+
+
 def middles(pairs, runs, clock=time.perf_counter):
-    """Runs programs on files, given as pairs of arguments and a file, in turn. Returns the median time of each."""
-    rounds = [[session_seconds(*pair, clock) for pair in pairs] for _ in range(runs)]
-    return [statistics.median(times) for times in zip(*rounds)]
+    """The same, but returns the median time of each program."""
+    return [statistics.median(times) for times in zip(*rounds(pairs, runs, clock))]
 
 
 def answers(words, source):

@@ -1,10 +1,10 @@
 """Run by of_python.py, by an interpreter that has numpy: python_rows.py ROWS RANGES RUNS
 
-It has the same rows in a `crackd.Table`; in numpy arrays that are kept sorted, with sums of their prefixes; in such
-arrays that stay as they are, with late rows beside them; in numpy arrays that are queried by masks; in a frame of
-pandas whose index has the sorted keys; in a SortedKeyList; and in an SQLite table in memory with an index that covers
-the queries. pandas and sortedcontainers are left out where they aren't installed. All are in this process and take
-turns. It prints, as JSON, the median seconds of each step by its name, in that order; all must give the same answers.
+It compares the same rows in a `crackd.Table`; in numpy arrays that are kept sorted, with prefix sums; in such arrays
+that stay unchanged, with late rows beside them; in numpy arrays that are queried by masks; in a pandas frame whose
+index has the sorted keys; in a SortedKeyList; and in an SQLite table in memory with an index that covers the queries.
+pandas and sortedcontainers are left out if they aren't installed. All are in this process and take turns. It prints, as
+JSON, the median seconds of each step by its name, in that order; all must give the same answers.
 """
 
 import json
@@ -99,7 +99,7 @@ class Sorted:
         self.keys = np.insert(self.keys, at, keys[order])
         self.payloads = np.insert(self.payloads, at, payloads[order])
         self.numbers = np.insert(self.numbers, at, numbers[order])
-        # (one sum needs no sums of prefixes, so they aren't made anew)
+        # one sum needs no prefix sums, so they aren't computed again
         first, end = np.searchsorted(self.keys, (low, high))
         return int(self.payloads[first:end].sum())
 

@@ -1,10 +1,10 @@
 """Run by of_python.py, by an interpreter that has numpy: python_shards.py ROWS RANGES CALLS RUNS
 
-It loads ROWS rows into a `crackd.Table` with as many shards as processors, and into one with one shard, and asks each
-for the counts and sums of RANGES new ranges, each kind in one call; then as many threads as there are processors make
-CALLS calls each, of counts, sums, inserts and deletes, and one thread makes as many in all. Beside them numpy sorts the
-keys and takes the payloads in their order. It prints, as JSON, the least seconds of each step by its name, and the
-bytes of memory a row; all must give the same answers.
+It loads ROWS rows into a `crackd.Table` with as many shards as processors, and into one with one shard. It asks each
+for the counts and the sums of RANGES new ranges, in one call each. Then as many threads as there are processors make
+CALLS calls each (counts, sums, inserts and deletes), and one thread makes as many in all. For comparison numpy sorts
+the keys and takes the payloads in their order. It prints, as JSON, the least seconds of each step by its name, and the
+bytes of memory per row; all must give the same answers.
 """
 
 import json
@@ -66,18 +66,20 @@ def side_by_side(table, threads, calls):
         it.join()
 
 
-def measured(keys, payloads, lows, calls, threads, **shards):
-    """The seconds of each step of one table, by name, its answers, and its memory a row."""
+def measured(keys, payloads, lows, calls, threads, is_together_first, **shards):
+    """The seconds of each step of one table, by name, its answers, and its memory a row. Later calls find more pieces,
+    so those of one thread and of several are first by turns."""
     before = resident()
     table, load = timed(lambda: crackd.Table.from_arrays(keys, payloads, **shards))
     memory = (resident() - before) / len(keys)
     counts, counting = timed(table.count_many, lows, lows + WIDTH)
     sums, summing = timed(table.sum_many, lows + WIDTH // 2, lows + WIDTH // 2 + WIDTH)
-    _, alone = timed(mixed_calls, table, 100, calls * threads)
-    _, together = timed(side_by_side, table, threads, calls)
+    seconds = {"load": load, "many": counting + summing}
+    single = {"alone": (mixed_calls, table, 100, calls * threads), "together": (side_by_side, table, threads, calls)}
+    for name in sorted(single, reverse=is_together_first):
+        seconds[name] = timed(*single[name])[1]
     answers = [counts.tolist(), list(sums), len(table)]
     table.close()
-    seconds = {"load": load, "many": counting + summing, "alone": alone, "together": together}
     return seconds, answers, memory
 
 
@@ -91,9 +93,9 @@ def main(rows, ranges, calls, runs):
     lows = rng.integers(0, KEYS - 2 * WIDTH, ranges)
     threads = os.cpu_count() or 1
     several, one, numpy_seconds, memory = [], [], [], []
-    for _ in range(runs):
+    for run in range(runs):
         numpy_seconds.append(timed(sorted_by_numpy, keys, payloads)[1])
-        found = [measured(keys, payloads, lows, calls, threads, **it) for it in ({}, {"shards": 1})]
+        found = [measured(keys, payloads, lows, calls, threads, run % 2 == 1, **it) for it in ({}, {"shards": 1})]
         if found[0][1] != found[1][1]:
             sys.exit("one shard and several don't answer the same")
         several.append(found[0][0])

@@ -7,14 +7,17 @@ import statistics
 import subprocess
 import time
 
-from plots import bars, curves
+from plots import bars, curves, smoothed
 
 try:
     import sqlite3
 except ImportError:
     sqlite3 = None
 
-OURS = "crackd's partition"
+OURS = "crackd under auto"
+# what takes the same steps as two programs in plain Rust
+GRADUAL = "crackd under gradual"
+SAME = "the same in plain Rust"
 FAST = "a cracker column for speed alone"
 
 # what the lists of that column have for a pending row: a slot, a float, and the row by its slot
@@ -95,7 +98,7 @@ class Rivals:
 class Measured:
     """What is in the report besides the queries: bytes a row by name, the steps of rows by policy in millions, seconds
     by the way of loading, those of counts after a load, statements a second by the way of sharing, seconds of asking
-    and of gathering with receipts and witnessed, contests, what is fast in its own way, and what a Redis sorted set
+    and of gathering with an audit and without, contests, what is fast in its own way, and what a Redis sorted set
     takes, if there is one."""
 
     rows: int
@@ -106,7 +109,7 @@ class Measured:
     loading: dict
     counts: dict
     workers: dict
-    witnessed: tuple
+    audits: tuple
     contests: list
     rivals: Rivals
     sets: list
@@ -220,8 +223,9 @@ def query_series(bench, peers, measured):
     """The queries by each program. All must give the same answers."""
     words = [str(measured.rows), str(measured.ranges)]
     programs = {
-        OURS: [bench, "each", "gradual"],
-        "the same in plain Rust": [peers, "each", "gradual"],
+        OURS: [bench, "each", "auto"],
+        GRADUAL: [bench, "each", "gradual"],
+        SAME: [peers, "each", "gradual"],
         FAST: [peers, "each", "fast-gradual"],
         "a sorted array": [peers, "each", "sorted"],
         "a BTreeMap": [peers, "each", "tree"],
@@ -240,7 +244,7 @@ def query_series(bench, peers, measured):
 
 
 def query_contests(series):
-    """The partition's queries compared with each other program's."""
+    """The queries of `crackd` compared with each other program's, and under gradual with those of its steps."""
     marks = {
         "loading, with a first count of everything": lambda it: it.load + it.everything,
         "a first count of everything": lambda it: it.everything,
@@ -248,11 +252,11 @@ def query_contests(series):
         "a sum of a range, median of the last hundred": lambda it: statistics.median(it.sums[-100:]),
         "loading and all queries": lambda it: it.load + it.everything + sum(it.sums),
     }
-    others = {name: it for name, it in series.items() if name != OURS}
+    of = {name: GRADUAL if name in (SAME, FAST) else OURS for name in series if name not in (OURS, GRADUAL)}
     return [
-        Contest(what, mark(series[OURS]) / 1e9, name, mark(it) / 1e9)
+        Contest(f"gradual: {what}" if ours == GRADUAL else what, mark(series[ours]) / 1e9, name, mark(series[name]) / 1e9)
         for what, mark in marks.items()
-        for name, it in others.items()
+        for name, ours in of.items()
     ]
 
 
@@ -304,27 +308,27 @@ def rival_text(measured):
     load, everything, *queries = rivals.queries.values()
     *merges, passing = rivals.merges
     carry, pull = rivals.steps
-    return f"""- **Inserts: {load.ratio():.1f} times as long.** `crackd` keeps a number for each row as long as it lives,
-  and a map from these numbers to cells; the column has none of these. A pending row takes {measured.memory["pending"]:.0f} bytes of `crackd`'s memory, and
-  {FAST_BYTES} of the column's lists. The system supplies memory page by page when it is first written.
-- **A first count of everything: {everything.ratio():.1f} times as long.** Each row is read through its handle, whose generation says that the cell is still
-  its own; then a separate step writes what the column needs of it, and its generation. The other column reads each row by its slot alone.
-- **Counts and sums with nothing pending: {spread(queries)} times as long.** Both crack by the same loop, which moves 24 bytes a row in `crackd`, and 20 in the
-  column. There a payload is beside its key, and a sum reads 16 bytes a row; `crackd` stores payloads separately, and reads 8. Also,
-  each query is clipped to the partition's keys.
-- **A crack in three.** If both ends of a range are missing and fall into one piece, `crackd` and the column divide it by both in one pass. A step writes
-  three rows, and a step of a crack by one bound two; this saves the second pass, mostly over a quarter of the piece. Compared with an earlier `crackd` that
-  cracked by one end after the other, the first count over half a million rows took as long, over 10,000 rows 1.5 times, 1,000 counts 1.1 times as long.
-- **A step of a carry: {carry.ratio():.1f} times as long; of a pull: {pull.ratio():.1f} times.** Each step puts the row in hand at a place
-  and moves a bound. In the other column bounds are adjacent, and one loop does all steps. In `crackd` a bound is a node of a tree, so that many of them
-  can be added, and one recursion visits the nodes in order, with the row in hand in memory beside the column.
-- **Sums that merge: {spread(merges)} times as long.** These are such steps, and more work for each row: a delete looks the row's
-  number up and removes it from the map, and its reply has the row; a row that is put in is read through its handle.
-- **A pass over pending keys that finds none: {passing.ratio():.1f} times as long.** `crackd` compares codes of 2 bytes, 128 at a time, and reads a key only if its
-  code is that of an end of the range, or of a key that isn't known yet. The column compares floats of 4 bytes, 16 at a time, and reads a key only if its
-  float lies between those of the ends.
-- **A BTreeMap** has nothing to merge and nothing to crack: an insert or a delete walks down from its root. A sum goes from node to node,
-  while a column's rows are adjacent."""
+    return f"""- **Inserts: {load.ratio():.1f} times as long.** `crackd` gives each row a permanent number, and keeps a map from these numbers to cells; the column has neither. A pending row
+  takes {measured.memory["pending"]:.0f} bytes of `crackd`'s memory, and {FAST_BYTES} of the column's lists. The system supplies memory page by page when it is first written.
+- **A first count of everything: {everything.ratio():.1f} times as long.** `crackd` reads each row through its handle, whose generation shows that the cell is still the row's own. A
+  separate step then writes what the column needs of the row, and its generation. The other column reads each row by its slot alone.
+- **Counts and sums with nothing pending: {spread(queries)} times as long.** Both crack by the same loop, which moves 24 bytes a row in `crackd`, and 20 in the column.
+  The column stores payloads beside keys, so a sum reads 16 bytes a row; `crackd` stores payloads separately, and reads 8. `crackd` also clips each query to the
+  partition's keys.
+- **A crack in three.** If both ends of a range are missing and fall into one piece, `crackd` and the column divide the piece by both in one pass. A step writes
+  three rows, and a step of a crack in two only two; but this saves the second pass, mostly over a quarter of the piece. An earlier `crackd` cracked at one end
+  after the other. Compared with it, the first count over half a million rows took as long, over 10,000 rows 1.5 times as long, and 1,000 counts 1.1 times as
+  long.
+- **A step of a carry: {carry.ratio():.1f} times as long; of a pull: {pull.ratio():.1f} times.** Each step puts the row in hand at a place and moves a bound. The other column stores bounds
+  side by side, and one loop takes all steps. In `crackd` bounds are nodes of a tree, so that many can be added. One recursion visits the nodes in order, with
+  the row in hand in memory beside the column.
+- **Sums that merge: {spread(merges)} times as long.** They take such steps, and do more work for each row: a delete looks up the row's number, removes it from the
+  map, and returns the row; an insertion that is merged is read through its handle.
+- **A pass over pending keys that finds none: {passing.ratio():.1f} times as long.** `crackd` compares codes of 2 bytes, 128 at a time, and reads a key only if its code is that
+  of an end of the range, or of a key that isn't known yet. The column compares floats of 4 bytes, 16 at a time, and reads a key only if its float lies between
+  those of the ends.
+- **A BTreeMap** has nothing to merge and nothing to crack: an insert or a delete walks down from its root. A sum walks from node to node, while a column's rows
+  are adjacent."""
 
 
 def loading_table(measured):
@@ -350,15 +354,15 @@ def count_table(counts):
 def set_text(measured):
     """What the same takes over TCP with a Redis sorted set."""
     if not measured.sets:
-        return "`redis-server` wasn't installed where this was written: nothing was compared."
+        return "`redis-server` wasn't installed where this page was written, so nothing was compared."
     lines = ["| What | crackd | Redis | times as fast as Redis |", "|---|---|---|---|"]
     for it in measured.sets:
         theirs = f"{shown(it.theirs)} | {it.theirs / it.ours:,.2f}" if it.theirs else "| "
         lines.append(f"| {it.what} | {shown(it.ours)} | {theirs} |")
-    return f"""One client in Python sends both the same requests over one connection, and each answers line by line. Except for the round trips, the client sends without
-waiting and reads at the same time. In Redis a row's number is the member of a sorted set, and its key the score (`ZADD`, `ZCOUNT` and `ZREM`); Redis keeps no
-payloads here and writes nothing to disk. It puts each row in its place on insertion, and needs no warm-up: its counts take the same time before and after.
-The counts are of a hundredth of the keys, {measured.ranges} of them.
+    return f"""One client in Python sends the same requests to both, over one connection each, and both reply line by line. Except for the round trips, the client sends
+without waiting for replies and reads at the same time. In Redis a row's number is the member of a sorted set, and its key the score (`ZADD`, `ZCOUNT` and
+`ZREM`); Redis keeps no payloads here and writes nothing to disk. It sorts each row on insertion and needs no warm-up: its counts take the same time before and
+after. There are {measured.ranges} counts, each of a hundredth of the keys.
 
 {chr(10).join(lines)}"""
 
@@ -377,30 +381,51 @@ def worker_table(workers):
     return "\n".join(lines)
 
 
-def witnessed_table(witnessed):
-    asking, gathering = witnessed
-    lines = ["| | with receipts | witnessed |", "|---|---|---|"]
-    lines += [f"| {what} | {booked * 1e9:,.0f} ns | {it * 1e9:,.0f} ns |" for what, (booked, it) in asking.items()]
+def audits_table(audits):
+    asking, gathering = audits
+    lines = ["| | with an audit | without |", "|---|---|---|"]
+    lines += [f"| {what} | {audited * 1e9:,.0f} ns | {it * 1e9:,.0f} ns |" for what, (audited, it) in asking.items()]
     lines += [
-        f"| gathering after {commands:,} commands | {booked * 1e3:,.2f} ms | {it * 1e3:,.3f} ms |"
-        for commands, (booked, it) in gathering.items()
+        f"| gathering after {commands:,} commands | {audited * 1e3:,.2f} ms | {it * 1e3:,.3f} ms |"
+        for commands, (audited, it) in gathering.items()
     ]
     return "\n".join(lines)
+
+
+def query_plot(measured, points):
+    return curves(f"Time of each of {measured.ranges:,} sums over {measured.rows:,} rows", points)
+
+
+def between_plot(between):
+    """The times between updates, in milliseconds; each number of changes has a scale of its own."""
+    groups = {it.what: {name: seconds * 1e3 for name, seconds in it.times.items()} for it in between}
+    return bars("Queries between updates", groups, "ms", is_one_scale=False)
+
+
+def loading_plot(times):
+    return bars("Loading, with the first count of everything", {"": times}, "ms")
+
+
+def ways_plot(rates):
+    return bars("Loading and listing", {"": {name: it / 1e6 for name, it in rates.items()}}, "million rows a second")
+
+
+def worker_plot(workers):
+    named = lambda count: f"{count} worker{'s' if count > 1 else ''}"
+    groups = {where: {named(count): it / 1e3 for count, it, _ in rates} for where, rates in workers.items()}
+    return bars("What workers answer", groups, "thousand statements a second")
 
 
 def write(folder, bench, peers, measured):
     """Measures the queries, and writes the page and its plots."""
     series = query_series(bench, peers, measured)
-    ways = {name: measured.rows / seconds / 1000 for name, seconds in measured.loading.items()}
-    rates = [(count, where, it) for where, rates in measured.workers.items() for count, it, _ in rates]
-    workers = {f"{count} {'worker' if count == 1 else 'workers'}, {where}": it / 1000 for count, where, it in rates}
-    loads = {name: (it.load + it.everything) / 1e6 for name, it in series.items()}
     plots = {
-        "queries": curves("Time of each query", {name: it.sums for name, it in series.items()}),
-        "loading": bars("Loading, with the first count of everything", loads, "ms"),
-        "ways": bars("Rows loaded in a millisecond", ways, "rows a millisecond"),
-        "workers": bars("Statements answered in a millisecond", workers, "statements a millisecond"),
-        "memory": bars("Memory of a row", measured.memory, "bytes"),
+        "queries": query_plot(measured, {it: smoothed(series[it].sums) for it in series if it not in (GRADUAL, SAME)}),
+        "between": between_plot(measured.between),
+        "loading": loading_plot({name: (it.load + it.everything) / 1e6 for name, it in series.items()}),
+        "ways": ways_plot({name: measured.rows / seconds for name, seconds in measured.loading.items()}),
+        "workers": worker_plot(measured.workers),
+        "memory": bars("Memory of a row", {"": measured.memory}, "bytes"),
         "moves": bars("Steps of rows under each policy", measured.moves, "million steps"),
     }
     folder.mkdir(parents=True, exist_ok=True)
@@ -415,99 +440,118 @@ def page(series, measured):
     contests = [*query_contests(series), *measured.contests, *by_tree, *over_tcp]
     return f"""# Benchmarks
 
-Written by `python3 bench/run.py --report` on {time.strftime('%-d %B %Y')}, on {os.cpu_count()} processors: {measured.rows} rows of random keys below 2^32, a count of everything,
-and then {measured.ranges} sums, each of a hundredth of these keys at a random place. Medians of {measured.runs} runs; all of them answer the same.
+`python3 bench/run.py --report` wrote this page on {time.strftime('%-d %B %Y')}, on {os.cpu_count()} processors. Each program loads {measured.rows} rows of random keys below 2^32, counts
+everything, and then answers {measured.ranges} sums, each of a hundredth of these keys at a random place. Times are medians of {measured.runs} runs; all programs give the same answers.
 
 ## Time of each query
 
-![time of each query](queries.svg)
+![The time of each query: `crackd` gets faster by itself](queries.svg)
 
 {table_of(series)}
 
+The two cracker columns in plain Rust take the same steps as `crackd` under `gradual`.
+
 ## Queries between updates
 
-What a sum of a hundredth of the keys takes with the deletes and inserts before it, which are of random rows; `crackd` is under `auto`. The sorted array has
-the sums of its prefixes. Late rows are kept beside it, and each sum passes over them, until there are 8192 and it is built anew; or it is built anew before each
-sum. SQLite is called from Python, and its index has the key and the payload.
+![Queries between updates, by program](between.svg)
+
+The time of a sum of a hundredth of the keys, with the deletes and inserts of random rows before it; `crackd` is under `auto`. The sorted array has prefix sums.
+Either it is rebuilt before each sum; or late rows are kept beside it, each sum scans them, and it is rebuilt once there are more than 8192. SQLite is called
+from Python, and its index has the key and the payload.
 
 {between_table(measured.between)}
 
 ## Age, and the order of queries
 
-Rounds of 10 deletes, 10 inserts and the sum of a random thousandth of the keys, 20000 of them; and sums of thousandths of a table that stays as it is, one after the other in
-rising order and at random places. `crackd` is under `auto`; under the other policies it takes longer the more bounds there are, and the longer the rest is that a
-rising query cracks again.
+First, 20000 rounds of 10 deletes, 10 inserts and the sum of a random thousandth of the keys: the means of the first and of the last tenth. Then sums of
+thousandths of a table without updates, one after the other in rising order and at random places. `crackd` is under `auto`; under the other policies a round
+takes longer the more bounds there are, and a rising sum the longer the rest is that it cracks again.
 
 {between_table(measured.ages)}
 
-By `perf`, of the code compiled without its proof, a round in the end takes 19 % of its time for the deletes and inserts, 10 % to crack, and 57 % to merge: 16 % to
-put 28 rows in, 18 of which were evicted before, and 38 % to take 9 out. 13 % are walks of the column's last row down past hundreds of bounds, where no pending row
-can fill a deleted one's place, and 20 % passes over the 20,000 pending insertions and 9,000 pending deletions.
+According to `perf`, on code compiled without its proof, a round in the end spends 19 % of its time on the deletes and inserts, 10 % on cracks, and 57 % on
+merges: 16 % to merge 28 insertions, 18 of which were evicted before, and 38 % to merge 9 deletions. Moving the column's last row down past hundreds of bounds
+takes 13 %: this happens if no pending insertion can fill a deleted row's place. Passes over the 20,000 pending insertions and 9,000 pending deletions take
+20 %.
 
-Over TCP beside two clients that load the server, half of the requests of a third take less than Redis's, but one in a thousand waits 10 to 30 ms, where Redis's wait
-0.2 ms (30 November 2026). They wait for merges that take many deleted rows out at once, under the partition's lock: by `perf`, of the code compiled without its proof, 86 %
-of the samples in pauses of over 8 ms are walks of the column's last row down past the bounds, one for each deleted row whose place no pending row fills.
+Before `auto` forgot bounds that are too many, three clients that each counted a new thousandth before an insert and a delete divided 500,000 rows into 180,000
+pieces in 30,000 rounds. A deleted row whose place no pending insertion fills moves a row of each piece above it. In processor time, by the library compiled
+without its proof, the 99.9th percentile of these counts was 3.6 ms and is now 0.26 to 0.4, the 99.99th was 16 to 23 and is now 0.7 to 1.4 (30 November 2026).
+
+Each of 10,000 idle clients of a server takes 591 bytes (30 November 2026). The server's memory stays flat: with 1,000 clients that connect, work and leave at
+random, 30,529 in an hour with 781,749 commands, it had 7.31 MB after 40 minutes, and 7.46 MB after 50 and after 60. A listing of a million rows of one
+partition holds the lock for 16 ms of processor time (27 ms the longest of 20). Its text, by `perf` four fifths of the listing, is written after that, 24 KB in
+each turn. While a table grows to a million rows, 100 inserts take 55 µs, but 20 ms when one partition's map of serials doubles (7 and 3 ms at the doublings
+before), and 1 ms with 64 partitions.
+
+Over TCP beside a Redis sorted set, one partition and four workers (`bench/run.py --once latency crowds`, 30 November 2026): one client beside three that send
+three requests at a time waits 0.17 to 0.22 ms at the 99th percentile of each request, with Redis 0.13 to 0.14; at the 99.9th 0.63 to 0.91 ms, with Redis 0.17
+to 0.18. While the host was busier these were 0.83 to 1.15 and 0.70 to 0.79. Of 1,000 clients with one request each in flight the 99.9th is 72 to 96 ms, with Redis
+66 to 77; of 10,000 clients 386 to 696 ms, with Redis 753 to 1,027. In processor time the 99.9th of these counts is 0.05 to 0.06 ms, and a request takes one
+`recvfrom` and one `sendto`. The rest is the wait for a processor and for the partition's lock: with 1,000 clients `strace` counts 12,356 calls of `futex` for
+22,013 requests. Over 64 partitions 1,000 clients get 100,000 to 109,000 replies a second; they got 59,000 to 75,000 before threads left connections to others.
 
 ## Loading, with the first count of everything
 
-![loading](loading.svg)
+![The time to load the rows and count them once, by program](loading.svg)
 
 ## Memory a row
 
-A key and a payload are 16 bytes, and a sorted array needs no more. `crackd` also keeps the row's cell, its number, and its place in the column or among
-the pending rows:
+A key and a payload take 16 bytes, and a sorted array needs no more. `crackd` also stores the row's cell, its number, and its place in the column or among the
+pending rows:
 
-![bytes a row](memory.svg)
+![Bytes per row, by where the row is](memory.svg)
 
 ## What each policy moves
 
-How often a row is put in, taken out, put back, or moved from one piece to the next, in millions of steps. The numbers are the same in each run, and but for
-`auto` for the column in plain Rust:
+Millions of steps in which a row is put into the column, taken out, put back, or moved from one piece to the next. Every run takes the same steps. So does the
+column in plain Rust, except under `auto`, which it doesn't have:
 
-![steps of rows under each policy](moves.svg)
+![Steps of rows, by policy](moves.svg)
 
 ## Where crackd is slower
 
-Each row says how many times as fast the other is.
+Each line says how many times as fast the other program is.
 
 {contest_table([it for it in contests if it.ours >= it.theirs], lambda it: it.ours / it.theirs)}
 
-A sorted array is sorted, and SQLite builds its index, before the first count is answered; after that neither cracks anything. A scan looks at each row
-and sorts nothing; so does SQLite without an index, which ran once. None of these keeps the commands that it answered. SQLite is called from Python, and its
-times include that; counts of one key are sent to `crackd script`, and include reading lines and writing replies.
+The sorted array is sorted, and SQLite's index is built, before the first count is answered; after that neither cracks anything. A scan reads each row and sorts
+nothing; so does SQLite without an index, which ran once. None of these keeps the commands that it answered. SQLite is called from Python, and its times include
+that. Counts of one key are sent to `crackd script`, and include reading lines and writing replies.
 
 ## Where it is faster
 
-Each row says how many times as fast `crackd` is.
+Each line says how many times as fast `crackd` is.
 
 {contest_table([it for it in contests if it.ours < it.theirs], lambda it: it.theirs / it.ours)}
 
 ## Compared with a column and a tree built for speed
 
-The cracker column for speed alone is plain Rust that takes the same steps. It identifies a row by its slot, which a
-later row may get; pending rows are in plain vectors, and a bit beside the column says whether a row is doomed. The BTreeMap has payloads by key
-and number, and sums ranges; no policy changes it. All get the same inserts, deletes and queries and give the same answers, and `crackd` and the
-column put in, put back, move, pull and take out the same number of rows. The column has no policy `auto`.
+The cracker column for speed alone is plain Rust that takes the same steps. It identifies a row by its slot, which a later row may reuse. Pending rows are in
+plain vectors, and a bit beside the column says whether a row is doomed. The BTreeMap maps key and number to the payload, and adds up ranges; policies don't
+affect it. All get the same inserts, deletes and queries and give the same answers. `crackd` and the column put in, put back, move, pull and take out the same
+number of rows. The column has no policy `auto`.
 
 {rival_table(measured.rivals)}
 
-What else `crackd` does, and what that costs:
+What else `crackd` does, and what it costs:
 
 {rival_text(measured)}
 
 ## Loading by statements, by CSV and over TCP
 
-{measured.rows} rows, and all of them listed: by a `select`, and by `csv` as records. The client over TCP sends without waiting, and reads
-at the same time.
+{measured.rows} rows are loaded and then all listed: by a `select`, or by `csv` as records. The client over TCP sends without waiting for replies, and reads at the same
+time.
 
-![rows a second](ways.svg)
+![Rows per second, by way of loading](ways.svg)
 
 {loading_table(measured)}
 
 ## Counts after a load
 
-After a load all rows are pending, and the column is empty. Under `ripple` a count puts its rows into it, and the next one, of another
-range, puts these back: so each looks through all pending rows. One count of everything under `complete` ends this, and `auto` starts with it. {measured.ranges} counts of a hundredth of the keys, each at a random place, by `crackd script`:
+After a load all rows are pending, and the column is empty. Under `ripple` each count merges its rows and evicts those of the count before it, so each scans all
+pending rows. One count of everything under `complete` ends this; `auto` starts with one. {measured.ranges} counts of a hundredth of the keys, each at a random place, by
+`crackd script`:
 
 {count_table(measured.counts)}
 
@@ -517,14 +561,14 @@ range, puts these back: so each looks through all pending rows. One count of eve
 
 ## Workers
 
-Half of their statements are sums of a hundredth of a partition's keys, a quarter deletes, and a quarter inserts. If a gain is below 1, more
-workers answer fewer statements in the same time: those that share a partition wait for its lock.
+Half of the workers' statements are sums of a hundredth of a partition's keys, a quarter deletes, and a quarter inserts. A gain below 1 means that more workers
+answer fewer statements in the same time: workers that share a partition wait for its lock.
 
-![statements a second](workers.svg)
+![Statements per second, by number of workers](workers.svg)
 
 {worker_table(measured.workers)}
 
-A server's workers are those of a table that witnesses its replies: they are gathered by counts, and keep receipts only for an audit.
+The workers of a server are gathered by counts, and keep receipts only for an audit.
 
-{witnessed_table(measured.witnessed)}
+{audits_table(measured.audits)}
 """

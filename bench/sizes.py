@@ -13,31 +13,33 @@ BATCHES = [(1000, 10), (100, 1000)]
 # how many rounds of updates with a sum, a tenth of which is compared with another tenth, and how many deletes and
 # inserts each has
 AGEING = (20_000, 10)
-# the rounds after which a table is old where policies are compared
+# the same for the comparison of policies, whose table is old after these rounds
 OLD = (4_000, 10)
 # how many deletes and inserts there are between two checkpoints; and, as crack_bench counts them, commands of one kind
 # before one and after it
 CHANGES, NEXT = 100_000, 1000
 PIECES, PENDING = 1000, 1000
-# over how many pieces rows go step by step, and how many rows
+# the number of pieces over which rows go step by step, and of these rows
 STEP_PIECES, STEP_ROWS = 2000, 1000
-# 63 splits of the files' keys, which are below 2**32, into parts of one width, each with this many bounds in it, less
-# one
+# 63 splits that divide the files' keys, which are below 2**32, into parts of equal width, and the pieces of each part
 PART_WIDTH, PART_PIECES = 2**26, 8
 SPLITS = [str(part * PART_WIDTH) for part in range(1, 64)]
-# how many workers; and, as crack_bench counts them, rows of each partition, and steps of four statements each
+# the numbers of workers; and, as crack_bench counts them, rows of each partition, and steps of four statements
 WORKER_COUNTS = [1, 2, 4]
 WORKER_ROWS, WORKER_STEPS = 100_000, 4000
 SHARINGS = [("own", "two partitions of each's own"), ("shared", "all over the same partitions")]
 # a worker has two partitions, and each insert is an entry
 GATHER_WORKERS, GATHER_ROWS = 4, 125_000
-WITNESSED_ROWS = (125, 12_500, GATHER_ROWS)
+UNAUDITED_ROWS = (125, 12_500, GATHER_ROWS)
 # a history has at most a million entries
 MOST_PART_ROWS = 998_000
 # statements that each wait for the previous reply, and counts of one key each
 TURNS, LOOKUPS = 20_000, 10_000
 # rounds of four requests that each wait for the previous reply, while other clients load the server
 LATENCY_ROUNDS = 30_000
+# how many clients have one request each in flight, and how many rounds of requests they send in all; how many clients
+# are idle; rows that are listed while requests are measured, or inserted one by one, and how many rounds of requests
+CROWDS, CROWD_ROUNDS, IDLE, STALL_ROWS, STALL_ROUNDS = (4, 1000, 10_000), 100_000, 10_000, 1_000_000, 20_000
 # rows of a table of several shards, and how many calls each of its threads makes
 SHARDED_ROWS, CALLS = (500_000, 8_000_000), 20_000
 EVERYTHING = f"0 {2**64}"
@@ -73,10 +75,15 @@ def shrink():
         "WORKER_ROWS": 500,
         "WORKER_STEPS": 50,
         "GATHER_ROWS": 500,
-        "WITNESSED_ROWS": (5, 50, 500),
+        "UNAUDITED_ROWS": (5, 50, 500),
         "MOST_PART_ROWS": 8000,
         "TURNS": 200,
         "LATENCY_ROUNDS": 100,
+        "CROWDS": (4, 100),
+        "CROWD_ROUNDS": 400,
+        "IDLE": 100,
+        "STALL_ROWS": 4000,
+        "STALL_ROUNDS": 100,
         "LOOKUPS": 100,
         "SHARDED_ROWS": (4000,),
         "CALLS": 200,

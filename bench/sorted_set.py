@@ -102,13 +102,14 @@ class Client:
 
 
 @contextlib.contextmanager
-def redis():
+def redis(*options):
     """The port of a Redis server for this run alone, which writes nothing to disk."""
     port = fixtures.free_port()
     words = [REDIS, "--port", str(port), "--bind", "127.0.0.1", "--save", "", "--appendonly", "no", "--dir", OUT]
+    words += options
     started = subprocess.Popen(words, stdin=subprocess.DEVNULL, stdout=subprocess.PIPE)
     try:
-        # (it writes much before it accepts connections, and nothing more after its last line until its end)
+        # Redis writes much before it accepts connections, and nothing after that until it ends
         ready = any(b"Ready to accept connections" in line for line in started.stdout)
         yield port if ready else sys.exit(f"{REDIS} ended")
     finally:

@@ -1,7 +1,7 @@
 """The lines of the table, and whether a ratio was above its bound."""
 
 
-# how wide the names of what is measured are
+# the width of the column of names
 WIDTH = 80
 
 

@@ -2,13 +2,14 @@
 
 use crate::numbers::Numbers;
 use std::io::{self, BufRead, BufReader, ErrorKind, Write};
+use std::mem;
 use std::net::{Ipv4Addr, TcpStream};
 use std::sync::atomic::{AtomicBool, Ordering};
 use std::thread;
 use std::time::Instant;
 
 /// How many clients load the server, each with three requests at a time.
-const LOADERS: u64 = 2;
+const LOADERS: u64 = 3;
 
 /// How many inserts are sent at a time before anything is measured.
 const CHUNK: u64 = 1000;
@@ -16,8 +17,8 @@ const CHUNK: u64 = 1000;
 /// The width of a counted range: a thousandth of the keys, which have 32 bits.
 const WIDTH: u64 = 4294967;
 
-/// The requests that are measured, in the order in which a round sends them.
-const REQUESTS: [&str; 4] = ["count", "again", "insert", "delete"];
+/// The requests that are measured, in the order in which a round sends them: Redis has no sum.
+pub const REQUESTS: [&str; 5] = ["count", "again", "insert", "delete", "sum"];
 
 /// Which server is asked.
 #[derive(Clone, Copy, PartialEq)]
@@ -26,39 +27,74 @@ pub enum Server {
     Redis,
 }
 
+impl Server {
+    /// How many of the requests it answers.
+    pub fn requests(self) -> usize {
+        REQUESTS.len() - usize::from(self == Server::Redis)
+    }
+}
+
 /// How many requests of each kind were answered.
 #[derive(Clone, Copy, Default)]
-struct Totals {
-    counts: u64,
+pub struct Totals {
+    reads: u64,
     inserts: u64,
     deletes: u64,
 }
 
+impl Totals {
+    /// Adds those of another client.
+    pub fn add(&mut self, other: &Totals) {
+        self.reads += other.reads;
+        self.inserts += other.inserts;
+        self.deletes += other.deletes;
+    }
+
+    /// Prints how many commands were answered, rows inserted, deleted and left.
+    pub fn print(&self) {
+        let Totals { reads, inserts, deletes } = self;
+        println!("{} {inserts} {deletes} {}", reads + inserts + deletes, inserts - deletes);
+    }
+}
+
+/// Reads a reply of one line, which must begin like this.
+pub fn read_reply(reader: &mut impl BufRead, reply: &mut String, begins: &str) -> io::Result<()> {
+    reply.clear();
+    reader.read_line(reply)?;
+    if reply.starts_with(begins) {
+        return Ok(());
+    }
+    Err(io::Error::new(ErrorKind::InvalidData, format!("{reply:?} for {begins:?}")))
+}
+
 /// A connection to a server that answers each request by one line.
-struct Client {
+pub struct Client {
     server: Server,
-    writer: TcpStream,
     reader: BufReader<TcpStream>,
     numbers: Numbers,
     /// The member that Redis gives the next row; each client has its own.
     next: u64,
     requests: Vec<u8>,
     reply: String,
-    totals: Totals,
+    /// Where the last counted range begins, and the name of the last row.
+    low: u64,
+    row: String,
+    pub totals: Totals,
 }
 
 impl Client {
-    fn connect(server: Server, port: u16, number: u64) -> io::Result<Client> {
-        let writer = TcpStream::connect((Ipv4Addr::LOCALHOST, port))?;
-        writer.set_nodelay(true)?;
+    pub fn connect(server: Server, port: u16, number: u64) -> io::Result<Client> {
+        let stream = TcpStream::connect((Ipv4Addr::LOCALHOST, port))?;
+        stream.set_nodelay(true)?;
         let mut client = Client {
             server,
-            reader: BufReader::new(writer.try_clone()?),
-            writer,
+            reader: BufReader::new(stream),
             numbers: Numbers(number + 23),
             next: number << 40,
             requests: Vec::new(),
             reply: String::new(),
+            low: 0,
+            row: String::new(),
             totals: Totals::default(),
         };
         if server == Server::Crackd {
@@ -67,6 +103,11 @@ impl Client {
             client.read("policy auto")?;
         }
         Ok(client)
+    }
+
+    /// The connection, whose only descriptor this is, so that a process has as many clients as descriptors.
+    pub fn stream(&self) -> &TcpStream {
+        self.reader.get_ref()
     }
 
     /// Adds a request to Redis to those that are sent next.
@@ -96,7 +137,7 @@ impl Client {
     }
 
     fn add_count(&mut self, low: u64) {
-        self.totals.counts += 1;
+        self.totals.reads += 1;
         let high = low + WIDTH;
         match self.server {
             Server::Crackd => self.requests.extend_from_slice(format!("count {low} {high}\n").as_bytes()),
@@ -104,20 +145,62 @@ impl Client {
         }
     }
 
-    fn send(&mut self) -> io::Result<()> {
-        self.writer.write_all(&self.requests)?;
+    /// Adds the request of a round with this place: a count of a new range, the same again, an insert, the row's
+    /// delete, and the sum of the range.
+    fn add(&mut self, at: usize) {
+        match at {
+            0 => {
+                self.low = u64::from(self.numbers.word());
+                self.add_count(self.low);
+            }
+            1 => self.add_count(self.low),
+            2 => self.add_insert(),
+            3 => {
+                let row = mem::take(&mut self.row);
+                self.add_delete(&row);
+            }
+            _ => {
+                self.totals.reads += 1;
+                let (low, high) = (self.low, self.low + WIDTH);
+                self.requests.extend_from_slice(format!("sum {low} {high}\n").as_bytes());
+            }
+        }
+    }
+
+    /// Reads the reply to it.
+    fn read_reply(&mut self, at: usize) -> io::Result<()> {
+        match at {
+            0 | 1 => self.read_count(),
+            2 => {
+                self.row = self.read_row()?;
+                Ok(())
+            }
+            3 => self.read_deleted(),
+            _ => self.read("sum "),
+        }
+    }
+
+    /// Sends the request of a round with this place.
+    pub fn ask(&mut self, at: usize) -> io::Result<()> {
+        self.add(at);
+        self.send()
+    }
+
+    /// Reads the reply to it, and returns how many nanoseconds have passed since then.
+    pub fn hear(&mut self, at: usize, asked: Instant) -> io::Result<u64> {
+        self.read_reply(at)?;
+        Ok(asked.elapsed().as_nanos() as u64)
+    }
+
+    pub fn send(&mut self) -> io::Result<()> {
+        self.reader.get_mut().write_all(&self.requests)?;
         self.requests.clear();
         Ok(())
     }
 
     /// Reads the next reply, which must begin like this.
     fn read(&mut self, begins: &str) -> io::Result<()> {
-        self.reply.clear();
-        self.reader.read_line(&mut self.reply)?;
-        if self.reply.starts_with(begins) {
-            return Ok(());
-        }
-        Err(io::Error::new(ErrorKind::InvalidData, format!("{:?} for {begins:?}", self.reply)))
+        read_reply(&mut self.reader, &mut self.reply, begins)
     }
 
     fn read_count(&mut self) -> io::Result<()> {
@@ -142,13 +225,8 @@ impl Client {
         self.read(if self.server == Server::Crackd { "gone " } else { ":1" })
     }
 
-    /// A place where a counted range begins.
-    fn place(&mut self) -> u64 {
-        u64::from(self.numbers.word())
-    }
-
     /// Inserts rows, many at a time.
-    fn load(&mut self, rows: u64) -> io::Result<()> {
+    pub fn load(&mut self, rows: u64) -> io::Result<()> {
         for _ in 0..rows / CHUNK {
             (0..CHUNK).for_each(|_| self.add_insert());
             self.send()?;
@@ -163,8 +241,7 @@ impl Client {
         self.send()?;
         let mut row = self.read_row()?;
         while !stopped.load(Ordering::Relaxed) {
-            let low = self.place();
-            self.add_count(low);
+            self.add(0);
             self.add_insert();
             self.add_delete(&row);
             self.send()?;
@@ -175,33 +252,20 @@ impl Client {
         Ok(self.totals)
     }
 
-    /// Sends four requests, each once the previous reply has come: a count of a new range, the same again, an insert,
-    /// and the row's delete. Returns the nanoseconds that each takes.
-    fn round(&mut self) -> io::Result<[u64; 4]> {
-        let (mut took, low) = ([0; 4], self.place());
-        for again in 0..2 {
-            self.add_count(low);
-            took[again] = self.timed(|it| it.read_count())?.1;
+    /// Sends the requests of a round, each once the previous reply has come. Returns the nanoseconds that each takes.
+    fn round(&mut self) -> io::Result<Vec<u64>> {
+        let mut took = Vec::with_capacity(REQUESTS.len());
+        for at in 0..self.server.requests() {
+            let asked = Instant::now();
+            self.ask(at)?;
+            took.push(self.hear(at, asked)?);
         }
-        self.add_insert();
-        let (row, nanoseconds) = self.timed(Client::read_row)?;
-        took[2] = nanoseconds;
-        self.add_delete(&row);
-        took[3] = self.timed(Client::read_deleted)?.1;
         Ok(took)
-    }
-
-    /// Sends what was added, and reads the reply. Returns what the reply says, and the nanoseconds that this takes.
-    fn timed<T>(&mut self, read: impl Fn(&mut Client) -> io::Result<T>) -> io::Result<(T, u64)> {
-        let start = Instant::now();
-        self.send()?;
-        let said = read(self)?;
-        Ok((said, start.elapsed().as_nanos() as u64))
     }
 }
 
 /// Reports how long a kind of request took: the median, 99 and 99.9 of 100, and the longest.
-fn report(name: &str, mut took: Vec<u64>) {
+pub fn report(name: &str, mut took: Vec<u64>) {
     took.sort_unstable();
     let at = |thousandths: usize| took[(took.len() * thousandths / 1000).min(took.len() - 1)];
     for (what, nanoseconds) in [("p50", at(500)), ("p99", at(990)), ("p99.9", at(999)), ("worst", at(1000))] {
@@ -224,11 +288,10 @@ pub fn run(server: Server, port: u16, rows: u64, rounds: u64) -> io::Result<()> 
         let loaded = busy.into_iter().map(|it| it.join().expect("no thread failed")).collect::<io::Result<Vec<_>>>()?;
         Ok::<_, io::Error>((took?, loaded))
     })?;
-    for (at, name) in REQUESTS.into_iter().enumerate() {
+    for (at, name) in REQUESTS.into_iter().enumerate().take(server.requests()) {
         report(name, took.iter().map(|it| it[at]).collect());
     }
-    let sum = |part: fn(&Totals) -> u64| part(&first.totals) + totals.iter().map(part).sum::<u64>();
-    let (counts, inserts, deletes) = (sum(|it| it.counts), sum(|it| it.inserts), sum(|it| it.deletes));
-    println!("{} {inserts} {deletes} {}", counts + inserts + deletes, inserts - deletes);
+    totals.iter().for_each(|it| first.totals.add(it));
+    first.totals.print();
     Ok(())
 }

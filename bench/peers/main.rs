@@ -9,7 +9,9 @@
 //! and `peers shared WORKERS ROWS STEPS` have workers on threads, and `peers copies WORKERS ROWS` copies what they did.
 //! `peers client PORT FILE` and `peers turns PORT FILE` send a file's statements to a server on this machine, all at
 //! once or one by one, and `peers echo PORT` is such a server. `peers crackd|redis PORT ROWS ROUNDS` inserts rows into
-//! a server, and then measures single requests while other clients load it.
+//! a server, and then measures single requests while other clients load it; with a further number, those of so many
+//! clients. `peers list PORT PROCESS ROWS LISTERS ROUNDS` does it while clients list all rows, and `peers grow PORT
+//! PROCESS ROWS` measures inserts.
 //!
 //! What a run computes goes to standard output, and must be what the measured program writes there. Times go to
 //! standard error, in nanoseconds, a line `NAME NUMBER` each, followed by what the merges did, if that is counted.
@@ -17,6 +19,7 @@
 mod arena;
 mod client;
 mod column;
+mod crowd;
 mod fast;
 mod fold;
 mod index;
@@ -30,6 +33,7 @@ mod pending;
 mod serials;
 mod session;
 mod sorted;
+mod stalls;
 mod store;
 mod through;
 mod tree;
@@ -80,8 +84,21 @@ fn main() {
         }
         Some(word @ ("crackd" | "redis")) => {
             let server = if word == "crackd" { latency::Server::Crackd } else { latency::Server::Redis };
-            let (port, rows) = (port(words.next()), number(words.next()));
-            latency::run(server, port, rows, number(words.next())).expect("a server answers");
+            let (port, rows, rounds) = (port(words.next()), number(words.next()), number(words.next()));
+            let ran = match words.next() {
+                Some(clients) => crowd::run(server, port, rows, number(Some(clients)) as usize, rounds as usize),
+                None => latency::run(server, port, rows, rounds),
+            };
+            ran.expect("a server answers");
+        }
+        Some("list") => {
+            let port = port(words.next());
+            let [process, rows, listers, rounds] = [(); 4].map(|()| number(words.next()));
+            stalls::list(port, process, rows, listers, rounds).expect("a server answers");
+        }
+        Some("grow") => {
+            let (port, process) = (port(words.next()), number(words.next()));
+            stalls::grow(port, process, number(words.next())).expect("a server answers");
         }
         Some(word @ ("client" | "turns")) => {
             let send = if word == "client" { client::pipeline } else { client::take_turns };
@@ -91,7 +108,7 @@ fn main() {
         Some("echo") => client::echo(port(words.next())).expect("a client that reads"),
         _ => panic!(
             "session, arena, column, counts, sums, each, rising, narrow, cold, pass, updates, ageing, merge, pulls, \
-             fold, own, shared, copies, client, turns or echo"
+             fold, own, shared, copies, crackd, redis, list, grow, client, turns or echo"
         ),
     }
 }
