@@ -1,5 +1,5 @@
-"""The crates that crates.txt lists: what they use, their files, sums of all that a proof depends on, and the words by
-which the toolchain's compiler, `rattle`, works on one."""
+"""The crates that crates.txt lists: what they use, their files, checksums of all that a proof depends on, and the
+arguments with which the toolchain's compiler, `rattle`, works on a crate."""
 
 import dataclasses
 import functools
@@ -15,8 +15,7 @@ PARTS = ("src", "specs", "proofs")
 
 @dataclasses.dataclass(frozen=True)
 class Crate:
-    """A crate: its name, its line in crates.txt, and the names of the repository's crates and of the toolchain's
-    libraries that the line names."""
+    """A crate: its name, its line in crates.txt, and the names of the crates and of the toolchain's libraries there."""
 
     name: str
     line: str

@@ -1,8 +1,8 @@
 #!/usr/bin/env python3
 """Writes docs/DEFINITIONS.md from the comments in specs/.
 
-It has each definition of specs/ with the comment above it, crate by crate and file by file. Modules that only private
-clauses cite are left out, as nobody has to read them to know what is promised.
+The page has each definition of specs/ with the comment above it, crate by crate and file by file. Modules that only
+private clauses cite are left out, since nobody has to read them to know what is promised.
 """
 
 import itertools
@@ -31,7 +31,7 @@ def said(item):
 
 def sentence(text):
     """A comment as a sentence of a table."""
-    # (a name of code at its beginning stays as it is)
+    # a name of code at the beginning isn't capitalised
     begun = text[:1].upper() + text[1:] if re.match(r"[a-z][a-z',]*(?:\s|$)", text) else text
     return begun.replace("|", "\\|") + ("" if not text or begun.endswith((".", ":")) else ".")
 

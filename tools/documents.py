@@ -1,14 +1,14 @@
 #!/usr/bin/env python3
-"""Lists what is wrong with the documents.
+"""Lists the faults of the documents:
 
-- A rule of docs/SPECIFICATION.md that no case shows. A word after a § marks the rule that it follows, and is part of
-  the name of a case of acceptance/cases, of a section of a page of acceptance/pages, or of a test of acceptance/ or of
-  the crates of tests, where it has underscores, or of a `name:` in a table of a test. Each item of a list and each row
-  of a table of rules must have a mark.
-- A name in backquotes in PROOFS' section 'What is only tested' that isn't a link to a file of this name, or to one that
-  has this test.
+- A rule of docs/SPECIFICATION.md that no case shows. The word after a § marks the rule before it. This word must be
+  part of the name of a case of acceptance/cases, of a section of a page of acceptance/pages, of a test of acceptance/
+  or of the crates of tests (there with underscores), or of a `name:` in a table of a test. Each item of a list and each
+  row of a table of rules must have a mark.
+- A name in backquotes in PROOFS' section 'What is only tested' that isn't a link to a file with this name, or to a file
+  that contains this test.
 - A name of code in a crate's section of PROOFS that is neither in the crate's texts nor a function or type elsewhere.
-- A link to a file that isn't there, or to a heading that a page doesn't have.
+- A link to a file that doesn't exist, or to a heading that a page doesn't have.
 """
 
 import re
@@ -18,7 +18,7 @@ from crates import PARTS, TOP, read
 
 RULES, PROOFS = "docs/SPECIFICATION.md", "docs/PROOFS.md"
 MARK = re.compile(r"§([\w-]+)")
-# where names that show rules are
+# the files and the patterns of names that show rules
 SHOWN = {
     "acceptance/cases/*.cases": r"^== (\S+)",
     "acceptance/pages/*.txt": r"^## (.+)",
@@ -34,7 +34,7 @@ SECTION = re.compile(r"^## (crackd?_\w+)\n(.*?)(?=^## )", re.MULTILINE | re.DOTA
 QUOTED = re.compile(r"`([^`]+)`")
 NAME = re.compile(r"[A-Za-z_][\w-]*")
 DEFINED = re.compile(r"\b(?:fn|pub struct|pub enum|pub trait) (\w+)")
-# what occurs in sections and isn't a name of code: words of statements and of policies, and a crate of the toolchain
+# words in sections that aren't names of code: words of statements and policies, and a crate of the toolchain
 PLAIN = {"quit", "policy", "auto", "csv"}
 LINK = re.compile(r"\]\(([^)\s]+)\)")
 HEADING = re.compile(r"^#+ (.*)$", re.MULTILINE)

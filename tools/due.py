@@ -1,9 +1,9 @@
-"""Which must-fail edits are due: those of the crates that changed since all were tried, and a tenth of the others.
+"""Finds the must-fail edits that are due: those of crates that changed since all were tried, and a tenth of the others.
 
-A crate has changed if its own text has (sources, definitions or proofs), or if what a crate below it states has: its
-definitions, its types, its functions' contracts, and the statements of its laws. The body of a function, the proof of a
-law, imports and comments have no meaning for the crates above. In a crate that hasn't changed, edits that are new or
-changed themselves are due.
+A crate has changed if its own text has changed (sources, definitions or proofs), or what a crate below it states: its
+definitions, its types, its functions' contracts, and the statements of its laws. Bodies of functions, proofs of laws,
+imports and comments don't matter to the crates above. In a crate that hasn't changed, edits that are new or have
+changed themselves are due too.
 """
 
 import hashlib
@@ -16,12 +16,12 @@ import crates
 
 COMMENT = re.compile(r"(?m)[ \t]*(?://|--).*$")
 IMPORT = re.compile(r"(?m)^(?:pub(?:\([^)]*\))?\s+|ghost\s+|\s)*(?:use|mod)\b.*$")
-# a function's body, behind the last line of what it says of itself
+# a function's body, after the last line of its signature and contract
 BODY = re.compile(
     r"(?m)^( *)((?:pub(?:\([^)]*\))? )?(?:const )?(?:unsafe )?(?:extern \S+ )?fn .*|(?:\) *(?:->.*)?)?)"
     r"\{\n(?:.*\n)*?\1\}$"
 )
-# the equations of a law, behind its statement
+# the equations of a law, after its statement
 EQUATIONS = re.compile(r"(?m)^[^\s:=][^:=\n]*=.*\n(?:\s.*\n)*")
 # files of proofs that no other file can cite
 OF_FUNCTIONS = ("Answers.antt", "Invariants.antt", "Proof.antt")
@@ -74,8 +74,7 @@ def is_drawn(edit, commit):
 
 
 def due(every, tried):
-    """Those of the edits that are due since the commit that a file names, those of changed crates first, and a line
-    about them."""
+    """The edits that are due since the commit that a file names, those of changed crates first, and a line of text."""
     commit, head = since(tried), git("rev-parse", "HEAD").decode().strip()
     if not commit:
         return every, "edits: there is no commit whose edits were all tried, so all are due"

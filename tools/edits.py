@@ -1,16 +1,15 @@
 #!/usr/bin/env python3
 """Tries must-fail edits, wrong bodies that the prover must refuse: edits.py [CRATE ..], or edits.py --due SECONDS
 
-It tries all of them, or those of the named crates, or as many of those that are due (due.py) as it can begin in a time,
-once their crates are proved: in parallel, as many as there are processors and memory for, each starting from what a
-check of its crate kept. The last line is 'N passed, M failed'.
+It tries all edits, or those of the named crates, or as many of those that are due (due.py) as it can begin in SECONDS.
+First it proves their crates. Then it tries edits in parallel, as many as there are processors and memory for. Each try
+starts from what an earlier check of its crate kept. The last line is 'N passed, M failed'.
 
-Edits that change different functions are tried in one check: a function's proof may cite what the others promise and
-nothing of their bodies, and a check says for each function whether its own proof holds, or only lacks that of another.
-So functions of which one may call the other are tried separately. An edit whose function isn't proved itself is
-refused. One that a check of several leaves open (its function lacks another's proof, or is proved) is tried again among
-fewer, and finally by itself: then it is refused if the crate isn't proved. One that the prover can't read is a failure,
-like one that isn't refused. One that can't be applied ends all.
+Edits of different functions are tried in one check: a proof cites the contracts of other functions, never their bodies,
+and a check reports for each function whether its own proof holds, or only lacks another's. Functions of which one may
+call the other are tried separately. An edit is refused if its function isn't proved. One that a check of several edits
+leaves open is tried again among fewer, and finally alone: then it is refused if the crate isn't proved. An edit that
+the prover can't read is a failure, like one that isn't refused. An edit that can't be applied ends the run.
 """
 
 import concurrent.futures
@@ -31,7 +30,7 @@ import prove
 from reading import sources
 
 TRIED = crates.TOP / "tools" / "edits-tried"
-# How many edits one check tries at most, by round.
+# the greatest number of edits that one check tries, by round
 SIZES = (8, 3, 1)
 UNREAD = re.compile(r"is not in scope|has no field|is no name|operand is missing|expected the end|cannot continue")
 ERROR = re.compile(r"(?:\./)?(\S+?):\d+:\d+: error: (?:(`[^`]*`): )?(.*)")
@@ -39,8 +38,7 @@ ERROR = re.compile(r"(?:\./)?(\S+?):\d+:\d+: error: (?:(`[^`]*`): )?(.*)")
 
 @dataclasses.dataclass(frozen=True)
 class Edit:
-    """An edit: its crate, its name, its changes (the file, the old text and the new), and the function that it changes,
-    if there is only one."""
+    """An edit: its crate, name, changes (file, old text, new text), and the only function that it changes, if any."""
 
     crate: str
     name: str
@@ -60,8 +58,7 @@ def sources_of(name):
 
 
 def applied(crate, edits):
-    """The texts of a crate's files after these edits, the file and the line of each change, and why they can't be made,
-    if they can't."""
+    """The texts of a crate's files after these edits, each change's file and line, and why they can't be made."""
     texts, places = {}, []
     for file, old, new in (change for it in edits for change in it.changes):
         if not (crate.folder / file).is_file() or file.partition("/")[0] not in crates.PARTS:
@@ -92,7 +89,7 @@ def read(path, crate):
         fault = "an edit is a file NAME.edit with the names of files, each with pairs of 'old:' and 'new:'"
     if fault:
         sys.exit(f"BAD EDIT {found.label}: {fault}")
-    # (an old text and a new one have a line each, so lines keep their numbers)
+    # an old and a new text have one line each, so lines keep their numbers
     inside = {files[it].function_at(at) if it in files else None for it, at in places}
     return dataclasses.replace(found, function=inside.pop() if len(inside) == 1 else None)
 
@@ -111,8 +108,7 @@ def are_apart(one, other):
 
 
 def batches(crate, edits, size):
-    """Divides these edits of one crate into lists of at most this many, each of edits that can be tried together: those
-    that fit with the fewest others first."""
+    """Divides edits of a crate into lists of at most so many that can be tried together."""
     made = []
     for edit in sorted(edits, key=lambda it: sum(are_apart(it, other) for other in edits)):
         apart = (it for it in made if len(it) < size and all(are_apart(edit, other) for other in it))
@@ -125,8 +121,7 @@ def batches(crate, edits, size):
 
 
 class Check:
-    """What a check of a crate with some edits, or with none, said. If it has none, checks with edits begin with what it
-    keeps."""
+    """What a check of a crate with some edits said. If there are none, checks with edits begin with what it keeps."""
 
     def __init__(self, crate, edits):
         texts, kept = applied(crate, edits)[0], self.kept_of(crate)
@@ -141,7 +136,7 @@ class Check:
             words = [*crates.rattle_words("check", crate), "--jobs", "1", "--incremental", "kept"]
             self.status, lines = prove.run(words, room)
             if self.status not in (0, 1):
-                # (one that ended in neither way, such as one that was killed for lack of memory, is repeated once)
+                # a check that ended in neither way, for example one killed for lack of memory, is repeated once
                 self.status, lines = prove.run(words, room)
             if not edits and self.status == 0:
                 for it in kept.parent.glob("start-*"):
@@ -200,33 +195,45 @@ def need_of(crate):
 
 
 def side_by_side(tasks, is_over):
-    """Makes calls in parallel, given each with its crate, in this order, as many as there are processors and memory
-    for. Returns their results; None is that of one that wasn't begun, since is_over returned true."""
+    """Makes calls in parallel, as many as there are processors and memory for, given each with its crate and the place
+    of the call that must end first, or None. Returns their results; None if one wasn't begun, since it was over."""
     memory = re.search(r"MemAvailable:\s+(\d+)", pathlib.Path("/proc/meminfo").read_text())
-    room, taken, changed = 0.85 * 1024 * int(memory[1]), [], threading.Condition()
+    room, changed, count = 0.85 * 1024 * int(memory[1]), threading.Condition(), len(os.sched_getaffinity(0))
+    waiting, running, results = [*range(len(tasks))], [], {}
 
-    def made(task):
-        crate, call = task
-        need = need_of(crate)
-        with changed:
-            changed.wait_for(lambda: not taken or need + sum(taken) <= room)
-            taken.append(need)
-        try:
-            return None if is_over() else call()
-        finally:
+    def next_one():
+        taken = sum(need_of(tasks[it][0]) for it in running)
+        fits = lambda it: tasks[it][2] in {None, *results} and (not running or taken + need_of(tasks[it][0]) <= room)
+        return next(filter(fits, waiting), None)
+
+    def work(_):
+        while True:
             with changed:
-                taken.remove(need)
-                changed.notify_all()
+                changed.wait_for(lambda: not waiting or next_one() is not None)
+                if (at := next_one()) is None:
+                    return
+                waiting.remove(at)
+                running.append(at)
+            try:
+                results[at] = None if is_over() else tasks[at][1]()
+            except BaseException:
+                waiting.clear()
+                raise
+            finally:
+                with changed:
+                    running.remove(at)
+                    changed.notify_all()
 
-    with concurrent.futures.ThreadPoolExecutor(len(os.sched_getaffinity(0))) as pool:
-        return list(pool.map(made, tasks))
+    with concurrent.futures.ThreadPoolExecutor(count) as pool:
+        list(pool.map(work, range(count)))
+    return [results[it] for it in range(len(tasks))]
 
 
 class Trials:
     """Tries edits in rounds, until each has ended or the time is over."""
 
     def __init__(self, edits, ends):
-        # those that wait, and of each that has ended whether it was refused
+        # the edits that wait, and for each edit that was tried whether it was refused
         self.ends, self.waiting, self.verdicts = ends, edits, []
 
     def keep(self, crate):
@@ -250,13 +257,14 @@ class Trials:
         for size in SIZES:
             of_crate = lambda crate: [it for it in self.waiting if it.crate == crate.name]
             every = [(crate, it) for crate in crates.listed().values() for it in batches(crate, of_crate(crate), size)]
-            # (a single check gains nothing from one without edits before it)
+            # checking a crate without edits first doesn't pay for a single check
             many = {crate for crate, it in every if len(it) < len(of_crate(crate))}
             bare = sorted((it for it in many if not Check.kept_of(it).exists()), key=need_of, reverse=True)
-            side_by_side([(it, functools.partial(self.keep, it)) for it in bare], is_over)
             every.sort(key=lambda it: min(map(self.waiting.index, it[1])))
-            tasks = [(crate, functools.partial(self.try_batch, crate, batch)) for crate, batch in every]
-            results = zip(every, side_by_side(tasks, is_over))
+            first = {crate: at for at, crate in enumerate(bare)}
+            tasks = [(crate, functools.partial(self.keep, crate), None) for crate in bare]
+            tasks += [(crate, functools.partial(self.try_batch, crate, it), first.get(crate)) for crate, it in every]
+            results = zip(every, side_by_side(tasks, is_over)[len(bare) :])
             self.waiting = [edit for (_, batch), left in results for edit in (batch if left is None else left)]
 
 

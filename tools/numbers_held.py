@@ -1,7 +1,7 @@
-"""Numbers in documents and help texts that are constants of the code, or figures of docs/BENCHMARKS.md.
+"""Checks numbers in documents and help texts that are constants of the code, or figures of docs/BENCHMARKS.md.
 
-Each number has as many digits as its page needs. It is named by the text around it, with {} in its place, or by its
-cell of a table.
+A number is identified by the text around it, with {} in its place, or by its cell of a table. It may be rounded to as
+many digits as its page needs.
 """
 
 import decimal
@@ -12,42 +12,35 @@ from crates import TOP, read
 
 CONSTANT = re.compile(r"^(?:(?:pub(?:\(crate\))? )?const )?([A-Z_]+)(?:: \w+)? =\s+(-?[0-9_]+);?$", re.MULTILINE)
 NUMBER = r"(-?\d[\d,]*(?:\.\d+)?)"
-# where limits are written
+# the files that state limits
 DOCUMENTS = ["*.md", "docs/*.md", "crates/crack_arguments/src/*.rt", "python/crackd/**/*.py"]
-# for each limit its crate or file, its constant, and the texts around it, each of which some document has
+# for each limit its crate or file, its constant, and the texts around it, each of which some document must have
 LIMITS = [
     ("crack_arena", "CELLS", ["An arena's cells are in pages of {}."]),
-    ("crack_arguments", "DEFAULT_CLIENTS", ["after `--clients N`, {} without it", "Up to {} clients are connected",
-     "is told `refused 20 {}`", "a time, 1 to 1000000 [default: {}]"]),
-    ("crack_arguments", "DEFAULT_DRAIN", ["by `--drain N`, or {} without it", "it waits {} seconds, or as long as",
-     "at its end for clients [default: {}]"]),
-    ("crack_arguments", "MOST_CLIENTS", ["clients are 1 to {}, seconds", "as `--clients` says, {} at most",
-     "at a time, 1 to {} ["]),
+    ("crack_arguments", "DEFAULT_CLIENTS", ["N`, {} without it", "Up to {} clients", "`refused 20 {}`",
+     "a time, 1 to 1000000 [default: {}]"]),
+    ("crack_arguments", "DEFAULT_DRAIN", ["N`, or {} without it", "it waits {} seconds, or", "clients [default: {}]"]),
+    ("crack_arguments", "MOST_CLIENTS", ["clients are 1 to {}, ", "clients` says, {} at most", "at a time, 1 to {} ["]),
     ("crack_commands", "GREATEST_PART", ["P is at most {} and S"]),
     ("crack_commands", "GREATEST_SERIAL", ["and S at most {}, else 1"]),
     ("crack_core", "MOST_SPLITS", ["more than {} splits", "by 0 to {} splits that rise", "2^64 - 1; {} at most"]),
     ("crack_csv", "MOST_RECORDS", ["a record after the {}th that isn't a header", "n is at most {}. On a fault"]),
-    ("crack_kept", "FIRST_ENTRIES", ["A kept history has room for {} entries"]),
-    ("crack_kept", "KEPT_ENTRIES", ["except the room of {} entries"]),
-    ("crack_pending", "FIRST_SPOTS", ["its pending insertions for {} rows"]),
+    ("crack_pending", "FIRST_SPOTS", ["Pending insertions have room for {} rows"]),
     ("crack_plain", "MOST_ACCEPTED", ["is answered until {} were accepted"]),
     ("crack_row", "GREATEST_BOUND", ["Range ends are 0 to {}, which is", "| bound | 0 to {};"]),
-    ("crack_row", "GREATEST_CELLS", ["one has at most {} rows", "and with `--cells` {}.", "says, up to {}. Each",
-     "`--cells` 1 to {}, `--life`", "at most their limit, which is 1 to {} |", "cells its rows may take (1 to {}),",
-     "Cells of a partition, 1 to {} [", "as many rows as cells, at most {}", "cells 1 to {}, lives"]),
+    ("crack_row", "GREATEST_CELLS", ["one has at most {} rows", "with `--cells` {}.", "says, up to {}. Each",
+     "`--cells` 1 to {}, ", "at most their limit, which is 1 to {} |", "its rows may take (1 to {}),",
+     "Cells of a partition, 1 to {} [", "rows as cells, at most {}", "cells 1 to {}, lives"]),
     ("crack_row", "GREATEST_KEY", ["Keys are 0 to {}, payloads", "| key | 0 to {} |", "GREATEST_KEY = {}"]),
-    ("crack_row", "GREATEST_LIFE", ["**{} commands** a partition since its start", "`--life` 1 to {} |",
-     "at most its life, which is 1 to {} |", "lives 1 to {}"]),
-    ("crack_row", "GREATEST_LIMIT", ["once its history has {} entries, or as many", "`--limit` 1 to {}, `--cells`",
-     "at most its limit, which is 1 to {} |", "makes a checkpoint (1 to {}), how", "Length of a history, 1 to {} [",
-     "histories 1 to {}, cells"]),
+    ("crack_row", "GREATEST_LIFE", ["**{} commands*", "`--life` 1 to {} |", "life, which is 1 to {}", "lives 1 to {}"]),
+    ("crack_row", "GREATEST_LIMIT", ["its history has {} entries", "`--limit` 1 to {}, ", "its limit, which is 1 to {}",
+     "a checkpoint (1 to {}), ", "Length of a history, 1 to {} [", "histories 1 to {}, cells"]),
     ("crack_row", "GREATEST_PAYLOAD", ["to {} | | sum of payloads"]),
     ("crack_row", "LEAST_PAYLOAD", ["payloads {} to", "| payload | {} to"]),
     ("crack_service", "MOST_INPUT_BYTES", ["before a worker starts: at most {}"]),
     ("crack_session", "KEPT_BYTES", ["cuts is kept, up to {} bytes"]),
     ("crack_session", "LINE_BYTES", ["| statement line | at most {} bytes |"]),
-    ("crack_session", "MOST_READS", ["reads in one session of a script or a batch | at most {} |",
-     "or after {} reads"]),
+    ("crack_session", "MOST_READS", ["of a script or a batch | at most {} |", "or after {} reads"]),
     ("crack_session", "OUTPUT_BYTES", ["are put together in output, {} bytes"]),
     ("crack_session", "READ_BYTES", ["A session reads up to {} bytes at a time", "each read asks for {} bytes"]),
     ("crack_store", "FEW", ["where at most {} rows are doomed"]),
@@ -55,36 +48,33 @@ LIMITS = [
     ("crack_store", "SHORT", ["where the piece has at most {} rows"]),
     ("crack_table", "MOST_WORKERS", ["of workers isn't 1 to {}", "as many workers as processors, {} at most",
      "given 1 to {} workers", "on its own thread: 1 to {}", "not 1 to {} workers", "Threads that serve, 1 to {} ["]),
-    ("crackd_c", "CLOSED", ["| {} | `CRACKD_CLOSED` |"]),
-    ("crackd_c", "ALREADY_OPEN", ["| {} | `CRACKD_ALREADY_OPEN` |"]),
-    ("crackd_c", "LENGTHS_DIFFER", ["| {} | `CRACKD_LENGTHS_DIFFER` |"]),
+    ("crack_witness", "FIRST_ITEMS", ["the list of an audit for {} entries"]),
+    *[("crackd_c", it, [f"| {{}} | `CRACKD_{it}` |"]) for it in ("CLOSED", "ALREADY_OPEN", "LENGTHS_DIFFER")],
     ("crackd_c", "NO_SUCH_POLICY", ["| {} | `CRACKD_NO_SUCH_POLICY` |"]),
-    ("python/crackd/base.py", "MOST_PARTS", ["rows and at most {}.", "keys into partitions, at most {}:",
-     "up to {} partitions", "has at most {} of them"]),
+    ("python/crackd/base.py", "MOST_PARTS", ["rows and at most {}.", "partitions, at most {}:", "at most {} of them"]),
     ("python/crackd/base.py", "ROWS_A_PART", ["one for each {} rows and at most"]),
     ("python/crackd/table.py", "ROWS_A_SHARD", ["one for each {} rows, at most one for each"]),
     ("python/crackd/table.py", "MOST_BY_DEFAULT", ["processor and {}, and each shard"]),
     ("python/crackd/local.py", "HISTORY", ["a partition ({} by default)"]),
     ("Makefile", "RUN_MINUTES", ["and answers: {} minutes the first time", "`make run` took {} minutes from nothing"]),
-    ("Makefile", "TEST_MINUTES", ["and runs all tests: {} minutes", "from nothing, `make test` {} and"]),
-    ("Makefile", "EDITS_MINUTES", ["and then `make edits` {}. `.ci/run`"]),
+    ("Makefile", "TEST_MINUTES", ["and runs all tests: {} minutes", "from nothing, `make test` {} after"]),
+    ("Makefile", "EDITS_MINUTES", ["`make edits` {} beside other work"]),
 ]
 
 # the tables of docs/BENCHMARKS.md, by the first cells of their heads
 QUERIES = ("What", "loading", "first count of everything")
 BETWEEN = ("What", "crackd", "a BTreeMap")
 RIVALS = ("What", "crackd", "a cracker column for speed alone")
-# how many milliseconds a unit of theirs has, and what is a figure of other tables
+# the milliseconds of each unit in these tables; and the form of a figure in the tables of other documents
 UNITS = {"ns": 1e-6, "µs": 1e-3, "ms": 1, "s": 1e3}
 FIGURE = re.compile(rf"{NUMBER}(?: ms)?$")
 LATER = {"first sum": ["first sum"], "median of the last hundred of 1,000 sums": ["median of the last hundred"]}
 LATER["load and first count of everything"] = ["loading", "first count of everything"]
-# tables that have milliseconds of docs/BENCHMARKS.md: the document, the first cells of the head, the table there, and
-# for a row and a column the row there and the columns whose sum the cell is
+# tables with milliseconds of docs/BENCHMARKS.md: the document, the first cells of the table's head, the table of
+# BENCHMARKS.md, and a function that gives, for a row and a column, the row there and the columns whose sum the cell is
 TABLES = [
     ("README.md", ("", "10 deletes and 10 inserts"), BETWEEN, lambda row, column: (f"a sum after {column}", row)),
-    ("README.md", ("", "crackd", "a BTreeMap"), QUERIES,
-     lambda row, column: ("crackd's partition" if column == "crackd" else column, *LATER[row])),
+    ("README.md", ("", "crackd", "a BTreeMap"), QUERIES, lambda row, column: (column, *LATER[row])),
     ("docs/ARCHITECTURE.md", ("Policy", "1000 sums, all rows pending"), RIVALS,
      lambda row, column: (f"{row}: {column}", "crackd")),
 ]
@@ -144,8 +134,9 @@ def table(text, first):
 
 
 def milliseconds(rows, row, *columns):
-    """The sum of cells of a table of times."""
-    cells = (rows[row][it].split(" ") for it in columns)
+    """The sum of cells of a table of times, whose first row is that of `crackd`, under the policy that it says."""
+    of = next(iter(rows)) if row == "crackd" else row
+    cells = (rows[of][it].split(" ") for it in columns)
     return sum(float(number.replace(",", "")) * UNITS[unit] for number, unit in cells)
 
 

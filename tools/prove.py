@@ -1,9 +1,8 @@
 #!/usr/bin/env python3
 """Proves crates and those below them, and keeps what is built: prove.py NAME .., or prove.py --all
 
-It only starts `rt ci`, on a copy without the must-fail edits, since there is no option to leave these out. Nothing is
-proved again that was proved on this machine. What is built is moved back: programs, and the libraries over which edits
-are tried. A static library, which `rt ci` only proves, is built as well.
+It only starts `rt ci`, on a copy without the must-fail edits, since no option leaves these out. Nothing is proved again
+that was proved on this machine. What is built is moved back; a static library, which `rt ci` only proves, is built.
 
 With names nothing is started if all is up to date, and what is said goes to standard error. With --all it is the gate:
 the last line of its output is 'N passed, M failed'.
@@ -21,7 +20,7 @@ import tempfile
 import crates
 from crates import TOP
 
-# lines of a check that don't help whoever must mend a crate
+# lines of a check's output that don't help to correct a crate
 NOISE = ("checked ", "so far: ", "statements ", "by-macro: ", "logic ", "rt: chose ")
 
 

@@ -10,7 +10,7 @@ import sys
 import tempfile
 import unittest
 
-# (`python3 -m unittest tools.test_tools` begins at the top)
+# `python3 -m unittest tools.test_tools` runs in the top folder
 sys.path.insert(0, str(pathlib.Path(__file__).resolve().parent))
 
 import crates
@@ -152,7 +152,7 @@ def folder_with(case, files):
 
 class Edits(unittest.TestCase):
     def test_a_function_is_named_by_its_module_type_and_trait(self):
-        # where it is, what it is, and which names in a check mean it (there a method has the module of its type)
+        # a place, its function, names in a check, and those that mean it (there a method has the module of its type)
         of_hint = ["inside::Hint::len", "a::Hint::len::closure", "inside::Thing::len"]
         of_trait = ["inside::HintScale::weigh", "inside::HintOther::weigh", "inside::Hint::weigh"]
         for path, line, wanted, names, right in [
@@ -177,9 +177,12 @@ class Edits(unittest.TestCase):
 
     def test_calls_are_made_once_and_none_is_begun_once_it_is_over(self):
         every, begun = [*crates.listed().values()], []
-        tasks = [(it, lambda it=it: begun.append(it) or it.name) for it in every]
+        # each second call comes after the one that follows it
+        first = lambda at: at + 1 if at % 2 == 0 and at + 1 < len(every) else None
+        tasks = [(it, lambda it=it: begun.append(it) or it.name, first(at)) for at, it in enumerate(every)]
         self.assertEqual(edits.side_by_side(tasks, lambda: False), [it.name for it in every])
         self.assertEqual(len(begun), len(every))
+        self.assertTrue(all(begun.index(other) < begun.index(it) for it, other in zip(every[::2], every[1::2])))
         self.assertEqual(edits.side_by_side(tasks, lambda: True), [None] * len(every))
 
     def test_a_copy_to_be_proved_has_no_edits_and_a_crate_comes_after_those_that_it_uses(self):
@@ -237,7 +240,7 @@ class Reading(unittest.TestCase):
         read = self.read("a::put", "size")
         wanted = ["    requires { size < PLACES }", "    ensures size { shelf.new.size ≡ size }"]
         self.assertEqual((read["a::put"], "a.Sizes.IsFull" in read), (wanted, False))
-        # (a trait is read with what public types have of it)
+        # a trait is read with the members that public types define for it
         had = [it for it in self.read("a::inside::Scale::weigh") if " as Scale" in it]
         self.assertEqual(had, ["a::inside::Shelf as Scale"])
 
@@ -250,11 +253,11 @@ class Reading(unittest.TestCase):
         self.assertEqual(said, [["pub struct Shelf {", "    things: Vec<Thing>,", "}"], ["/// What stands on it."]])
 
     def test_what_no_clause_and_what_private_ones_alone_reach(self):
-        # (a name that a text binds itself cites nothing: a definition is called `size`, as some variables are)
+        # a name that a text binds itself cites nothing: some variables are called `size`, like a definition
         self.assertEqual([it.name for it, _ in trust.misplaced(self.shelf)], ["a.Sizes.size", "a.Sizes.stray"])
         path = self.shelf.items["a.Other.size"].path
         path.write_text(path.read_text().replace(definitions.PRIVATE, "-- Others."))
-        # (of a private function, of what a type keeps of its own fields, and of a private type)
+        # cited by a private function, by what a type keeps of its own fields, and by a private type
         found = [it.short for it, fault in trust.misplaced(self.shelf) if fault.startswith("private clauses alone")]
         self.assertEqual(found, ["size", "AreLight", "in_ounces"])
 
@@ -276,14 +279,14 @@ class Numbers(unittest.TestCase):
         limits = [("a", "PLACES", ["has {} places", "and {} names", "of {} places"]), ("a", "NAMES", ["has {}"])]
         wanted = ["page.md says 'and 4097 names'", "no page says 'of {} places'", "a has 0 values of NAMES"]
         self.assertEqual(numbers_held.limit_faults(limits, top), wanted)
-        # (a number has as many digits as its page needs)
+        # a number has as many digits as its page needs
         said = {"1,048,576": 2**20, "18446744073709551615": 2**64 - 1, "0.09": 0.0932, "0.094": 0.0932}
         self.assertEqual([it for it in said if not numbers_held.is_said(it, said[it])], ["0.094"])
 
 
 class Documents(unittest.TestCase):
     def test_lines_of_code_have_120_columns_at_most(self):
-        # (an attribute can't be broken, and bench/report.py has the text of a page, whose lines are as long as pages')
+        # an attribute can't be broken, and bench/report.py has the text of a page, whose lines are as long as pages'
         kinds = ["crates/*/src/**/*.rt", "*/*.py", "tools/*/*.py", "python/*/**/*.py", "bench/peers/*.rs"]
         kinds += ["acceptance/c/*.c", "include/*.h", "examples/*.sh", "Makefile"]
         files = {it for kind in kinds for it in crates.TOP.glob(kind) if it.name != "report.py"}

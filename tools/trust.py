@@ -1,14 +1,15 @@
 #!/usr/bin/env python3
 """Prints and counts what a reader must read to know what is promised: trust.py [--count] [PROMISE ..]
 
-For the promises of docs/PROOFS.md and the sentence above them (PROMISE: their names, or `headline`; else all) it prints
-the clauses of their calls and the definitions, types and ghost members that these cite, in turn, each after what it
-cites, with its file and line; without these with --count. Lines of clauses, definitions and ghost members are counted;
-those of types and constants, which are code, separately; comments and the first lines of functions aren't.
+The promises are those of docs/PROOFS.md and the sentence above them: PROMISE is the name of one, or `headline`; by
+default it takes all. It prints the clauses of their calls, and the definitions, types and ghost members that these cite
+directly or indirectly, each after what it cites, with its file and line. With --count it prints only the numbers. Lines
+of clauses, definitions and ghost members are counted; those of types and constants, which are code, are counted
+separately; comments and the first lines of functions aren't counted.
 
-The status is 1 if no clause of any crate reaches a definition of specs/; if only private clauses reach it (of functions
-that a crate doesn't export, of tests, or of what a type keeps of its own fields) and its module doesn't say so in its
-first line; or if its module says so and public clauses reach it.
+The status is 1 if there is a definition in specs/ that no clause of any crate reaches; if only private clauses reach it
+(of functions that a crate doesn't export, of tests, or of what a type keeps of its own fields) and its module doesn't
+say so in its first line; or if its module says so and public clauses reach it.
 """
 
 import itertools

@@ -114,8 +114,7 @@ def bound_in(text):
 
 
 def arguments_of(name, lines):
-    """The names of a definition's arguments in its equations; a name that begins with a capital letter is a
-    constructor."""
+    """The names of a definition's arguments in its equations; a name with a capital letter is a constructor."""
     heads = [line.partition(" = ")[0] for _, line in lines if line.startswith(name + " ")]
     words = {it for head in heads if " : " not in head for it in re.findall(r"[^\s(){}∷,]+", head)[1:]}
     return {it for it in words if not it[0].isupper()}
