@@ -1,8 +1,8 @@
 .PHONY: help run try program-unproved lib lib-unproved test edits trust
 
-# how many minutes these took on 4 processors, beside other work
-RUN_MINUTES = 36
-TEST_MINUTES = 36
+# the minutes that these took on 4 processors, each after the one before it; the edits beside other work
+RUN_MINUTES = 47
+TEST_MINUTES = 28
 EDITS_MINUTES = 35
 
 # lists the targets
@@ -17,7 +17,7 @@ help:
 	@echo 'make lib-unproved  the same without a proof, in a minute: lib/libcrackd-unproved.so, and lib/libcrackd.so is a'
 	@echo '             link to it, until make lib replaces that'
 	@echo 'make test    proves all crates, runs the tests, the programs and the acceptance cases:'
-	@echo '             $(TEST_MINUTES) minutes the first time'
+	@echo '             $(TEST_MINUTES) minutes the first time, after make run'
 	@echo 'make edits   tests that the prover refuses the wrong bodies, with OF="NAME .." only those of these crates:'
 	@echo '             after make test $(EDITS_MINUTES) minutes'
 	@echo 'make trust   prints what a reader must read to know what is promised, and counts it;'
