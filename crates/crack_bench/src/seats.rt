@@ -1,4 +1,4 @@
-//! Workers at a table, each with its questions, on threads of their own.
+//! Workers of a table, each with its commands, on threads of their own.
 
 use crack_row::{Command, Policy, Refusal, Reply};
 use crack_table::{Gate, Table};
@@ -8,7 +8,7 @@ use std::sync::Wait;
 use std::thread::Threads;
 use std::{mem, thread};
 
-/// What answers commands: a table or partitions.
+/// What answers commands: a worker of a table, or partitions that are asked directly.
 pub trait Asks {
     fn ask(&mut self, part: u32, command: Command) -> Result<Reply, Refusal>;
 }
@@ -23,7 +23,7 @@ pub fn number_of(reply: &Reply) -> u64 {
     }
 }
 
-/// A worker at its table.
+/// A worker of a table.
 pub trait Works: Asks {
     /// Makes a checkpoint of a partition. Returns how many commands the partition accepted since the last one.
     fn checkpoint(&mut self, part: u32) -> Result<u64, Refusal>;
@@ -35,7 +35,7 @@ pub trait Questions {
     fn ask_next<A: Works>(&mut self, worker: &mut A, count: u64);
 }
 
-/// A worker at a table, with the gate and the policy of its commands.
+/// A worker with its table, and the gate and the policy of its commands.
 #[derive(Drop)]
 pub struct Seated<'a, R: Wait, G: Gate, J: Naming> {
     pub rt: &'a R,
@@ -87,7 +87,8 @@ pub fn work_on_threads<
     Ok(())
 }
 
-/// Moves the workers to `left`, without their questions.
+/// Moves the workers to `left`, and drops their questions. Refused with `OutOfMemory` if no memory is found for the
+/// list.
 pub fn leave<R: Wait, G: Gate, J: Naming, Q: Drop>(
     hands: Vec<Hand<Seated<R, G, J>, Q>>,
     left: &mut Vec<Worker<J>>,

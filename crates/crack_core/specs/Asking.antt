@@ -33,7 +33,8 @@ use Rattle.crack_core.specs.declared.turns.PartReply.{PartReply}
 abbrev pub step_at : Policy → ℕ → Command → Step
 step_at policy part command = record { part = part; command = command; policy = policy }
 
--- the history isn't full, and a cell is missing only if the partition has as many rows as it may have cells
+-- an outcome under automatic upkeep: it isn't `HistoryFull`, and it is `NoCell` only if the partition has as many
+-- rows as it may have cells
 abbrev pub Lasts : Limits → Option PlainView → Result Reply Refusal → Type 0
 Lasts limits table outcome = ((entries : ℕ) → outcome ≢ Err (HistoryFull entries)) × (outcome ≡ Err NoCell → IsSomeAnd table (λ (t : PlainView). limits.cells ≤ length t.state.rows))
 
@@ -81,7 +82,7 @@ InTurn {S} Asks old (part ∷ parts) result new =
 abbrev pub AsksEach : {S : Type 0} → (S → ℕ → Command → Policy → Result Reply Refusal → S → Type 0) → Policy → (Range → Command) → S → List (ℕ × Range) → Result (List PartReply) Refusal → S → Type 0
 AsksEach {S} asks policy question old parts said new = InTurn (λ (part : ℕ × Range) (outcome : Result Reply Refusal) (between after : S). asks between part.0 (question part.1) policy outcome after) old parts said new
 
--- the same for the partitions of these splits and limits
+-- the partitions of these splits and limits are asked one question in order, all by one policy
 abbrev pub AsksInTurn : Limits → List Bound → Policy → (Range → Command) → List Part → List (ℕ × Range) → Result (List PartReply) Refusal → List Part → Type 0
 AsksInTurn limits splits policy question old parts said new = InTurn (λ (part : ℕ × Range) (outcome : Result Reply Refusal) (between after : List Part). Asks limits splits (step_at policy part.0 (question part.1)) outcome between after) old parts said new
 
@@ -91,13 +92,13 @@ pub record ReadsParts {X : Type 0} (limits : Limits) (splits : List Bound) (poli
   pub ok : IfOk result (λ x. (said : List PartReply) × AsksInTurn limits splits policy question old (parts_of splits range) (Ok said) new × comes_to said x)
   pub err : IfErr result (λ e. AsksInTurn limits splits policy question old (parts_of splits range) (Err e) new ⊎ ((e ≡ OutOfMemory) × (new ≡ old)))
 
--- how many rows a reply counts or lists
+-- how many rows a reply counts or lists; 0 for any other reply
 abbrev pub counted : Reply → ℕ
 counted (Counted count) = count
 counted (Rows rows) = length rows
 counted _ = 0
 
--- the sum in a reply
+-- the sum in a reply; 0 for any other reply
 abbrev pub summed : Reply → ℤ
 summed (Summed sum) = sum
 summed _ = pos 0

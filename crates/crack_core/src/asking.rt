@@ -125,7 +125,7 @@ impl Core {
         }
     }
 
-    /// Asks each partition that has a part of the range, in order.
+    /// Asks each partition that has a part of the range, in order, and returns the replies. Refused as `count` is.
     pub(crate) fn ask_range(
         &mut self,
         query: Query,
@@ -165,7 +165,7 @@ impl AskPart for Core {
     }
 }
 
-/// The serial in the reply to an insert.
+/// The serial of the inserted row in the reply to an insert.
 fn serial_in(reply: &Reply) -> Serial
     ensures { (s : PlainState) (key : Key) (payload : Payload) → reply.now ≡ reply_to s (Insert key payload) →
         reply.now ≡ Reply.Placed result }

@@ -40,7 +40,7 @@ impl Progress {
     }
 }
 
-/// 2^64.
+/// 2^64: the value of the lowest of the bits above the low 64.
 const HIGH_UNIT: u128 = 18446744073709551616;
 
 /// 2^102, which no sum exceeds in size, and its quotient by 2^64.

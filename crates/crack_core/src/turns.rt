@@ -35,7 +35,7 @@ pub struct PartReply {
 }
 
 impl PartReply {
-    /// How many rows the reply counts or lists.
+    /// How many rows the reply counts or lists, or 0 if it is another one.
     pub(crate) fn counted(&self) -> u64
         ensures { result ≡ counted self.now.reply }
     {
@@ -46,7 +46,7 @@ impl PartReply {
         }
     }
 
-    /// The sum in the reply.
+    /// The sum in the reply, or 0 if it is another one.
     pub(crate) fn summed(&self) -> i128
         ensures { result ≡ summed self.now.reply }
     {
@@ -56,7 +56,7 @@ impl PartReply {
         }
     }
 
-    /// The rows that the reply lists.
+    /// The rows that the reply lists: none if it isn't the reply to a select.
     pub fn rows(&self) -> &[Row]
         ensures { result.now ≡ rows_listed self.now.reply }
     {

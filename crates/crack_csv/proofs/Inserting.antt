@@ -37,6 +37,6 @@ refused_last leads splits splits' policy number (Some row) e old new is same ask
     let led : leads old (insertion splits' policy row (Err e)) new = subst (leads old (insertion splits' policy row (Err e))) (sym here.2) here.1 in
     (row, old, subst (λ (s : List Bound). leads old (insertion s policy row (Err ReadFault)) new) same (subst (λ (x : Refusal). leads old (insertion splits' policy row (Err x)) new) is led))
 
--- the call by which a desk refuses a record with 17 is the last
+-- the call by which a desk refuses a record with `ReadFault` is the last
 pub is_refused_last : {D : Type 0} (leads : D → Call → D → Type 0) (splits splits' : List Bound) (policy : Policy) (number : ℕ) (fields : Fields) (e : Refusal) (old new : D) → e ≡ ReadFault → splits' ≡ splits → AsksNoRow leads splits' policy number fields e old new → IsLastRefused leads splits policy ReadFault new
 is_refused_last leads splits splits' policy number fields e old new is same asks = refused_last leads splits splits' policy number (new_row_of fields) e old new is same asks

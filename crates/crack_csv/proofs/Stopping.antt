@@ -86,7 +86,7 @@ module _ {D : Type 0} (bounds : D → Bounds) (splits : D → List Bound) (table
         cause = inr (record { fields = it.fields; first = whole bytes it front; no_header = header_apart it; cause = after.1 });
       }
 
-  -- it is refused with 17 if there are as many as allowed, or by the desk
+  -- it is refused with `ReadFault` if there are as many as allowed, or by the desk
   pub stopped-causes : {records : List Fields} {fault : LoadFault} {now : D} (failed : Bool) (reads : ℕ) → HasStopped bounds splits tables accepted leads policy origin records fault now → MayBeUnread leads (splits origin) policy failed reads fault now
   stopped-causes {records} {fault} {now} failed reads it is = by it.cause
     where

@@ -20,7 +20,7 @@ pub(crate) struct Progress {
     last_away: Option<SocketAddr>,
     /// How many accepts failed since this was last reported.
     failed: u64,
-    /// When each of the two was last reported.
+    /// When clients that were turned away were last reported, and when failed accepts were, in milliseconds.
     reported: Option<u64>,
     failed_reported: Option<u64>,
 }

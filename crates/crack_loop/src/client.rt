@@ -70,7 +70,8 @@ impl Client {
         is_new
     }
 
-    /// Writes texts that wait.
+    /// Writes texts that wait, once. Returns what the connection does next. `now` is the thread's time in
+    /// milliseconds, which the connection keeps if the stream takes bytes.
     fn write(&mut self, alloc: Global, now: u64) -> After {
         match (&self.stream).write(self.connection.unsent()) {
             Ok(0) => After::CutOff(Refusal::WriteFault),
@@ -87,7 +88,9 @@ impl Client {
         }
     }
 
-    /// Writes texts that were just appended. What the stream doesn't take waits.
+    /// Writes the texts that the session just appended to the output of `room`, once. What the stream doesn't take
+    /// waits. Returns what the connection does next: it is cut off if the write fails, or if no memory is found for
+    /// what waits.
     fn send(&mut self, alloc: Global, room: &Room, now: u64) -> After
         requires { self.old.connection.unsent ≡ [] }
     {
@@ -111,7 +114,8 @@ impl Client {
         }
     }
 
-    /// Reads once, answers and writes.
+    /// Reads once, answers what was read, and writes. Returns what the connection does next: it is cut off if the
+    /// read or the write fails, or if no memory is found.
     fn read<D: Desk>(
         &mut self,
         alloc: Global,

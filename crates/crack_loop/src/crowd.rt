@@ -47,7 +47,7 @@ pub(crate) struct Crowd {
     room: Room,
     /// Whether a connection may wait at the listener.
     may_arrive: bool,
-    /// For how many rounds in a row it was left to the other threads.
+    /// For how many rounds in a row a connection that may wait was left to the other threads.
     left: u32,
     /// The host's time in milliseconds, and the thread's own, which stands still while the process is stopped.
     now: u64,
@@ -190,7 +190,8 @@ impl Crowd {
         self.enqueue(service, key, false);
     }
 
-    /// Queues a connection, unless it is queued already.
+    /// Queues a connection for a turn, unless it is queued already. `is_half_closed` says that its client sends no
+    /// more than what has arrived. Cuts it off if no memory is found for the queue.
     fn enqueue<Rt: Wait, H: Host>(
         &mut self,
         service: &Service<'_, Rt, H>,

@@ -1,4 +1,5 @@
--- The effects of carries, pulls and merges on a store.
+-- The effects of carries, pulls and merges on a store. A carry inserts a pending insertion, and a pull deletes a
+-- doomed row, which has a pending deletion; both move one row of each piece on their way.
 use Rattle.std.specs.Prelude.{◌≡◌, ◌≢◌, ◌<◌, ◌≤◌, ⊤, ℕ, ◌+◌, ◌++◌, take, drop, length, List, [], Option, Some, None}
 use Rattle.crack_row.specs.Ranges.{Range}
 use Rattle.crack_row.specs.declared.command.Policy.{Policy}
@@ -27,7 +28,7 @@ pub data Carries (ceiling : Option ℕ) : Carried → State → Type 0 where
   goes_on : (c : Carried) (t : State) → ¬ IsDoomed c → IsBelow ceiling (hand_key c) → piece_end c.store (hand_key c) < length c.store.column → Carries ceiling (pushed_on c) t → Carries ceiling c t
 
 -- pending insertions in a range were carried, in order of arrival: each was found by a search from the place of the
--- one before, the last one at this place
+-- one before among the pending insertions; the number is the place of the last one
 pub data CarriesIn (ceiling : Option ℕ) (r : Range) (s : State) : ℕ → State → Type 0 where
   -- no pending insertion was carried
   begins : CarriesIn ceiling r s 0 s
@@ -72,16 +73,16 @@ pub data Begins (fillers : Range) (s : State) (seen : ℕ) : ℕ → Carried →
   -- no filler is left, and the next search looks at no pending insertion
   takes_last : Finds fillers (keys_at s.cells s.pending_in) seen None → Begins fillers s seen (length s.pending_in) (lifted_last s)
 
--- rows with pending deletions in a range were pulled, in order of arrival: each was found by a search from the
--- place of the one before, the last one at the first of the two places; the search for fillers continues from the
--- second
+-- rows with pending deletions in a range were deleted by pulls, in order of arrival: each was found by a search from
+-- the place of the one before among the pending deletions; the first number is the place of the last one, and the
+-- second is the place among the pending insertions from which the search for fillers continues
 pub data PullsOut (r fillers : Range) (s : State) : ℕ → ℕ → State → Type 0 where
   -- no row was pulled, and no filler is before the place
   begins : (seen : ℕ) → seen ≤ length s.pending_in → NoneIn fillers (keys_at s.cells s.pending_in) 0 seen → PullsOut r fillers s 0 seen s
   -- one more row was pulled
   pulls : (from place seen next : ℕ) (doomed : Handle) (t u : State) (c : Carried) → PullsOut r fillers s from seen t → Finds r (keys_at t.cells t.pending_out) from (Some place) → StandsAt t.pending_out place doomed → Begins fillers t seen next c → Pulls doomed c u → PullsOut r fillers s place next u
 
--- all pending deletions in a range were pulled: a search from the last one's place finds none
+-- all rows with pending deletions in a range were deleted by pulls: a search from the last one's place finds none
 pub record PullsAll (r fillers : Range) (s t : State) : Type 0 where
   pub from : ℕ
   pub seen : ℕ

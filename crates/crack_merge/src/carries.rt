@@ -12,12 +12,12 @@ ghost use Rattle.crack_merge.specs.Loops.{MayEnd, EvictsOver, ended};
 use crack_row::{Bound, KeyRange, Refusal};
 use crack_store::{CarryEnd, Carrying, Store};
 
-/// Carries the pending insertions in a range into the column, each up to the ceiling, in order of arrival. The
-/// ceiling is at or above the range's high end, so no evicted row is in the range. One pass over the pending
-/// insertions, and O(log bounds + pieces on its way) for each carried row. If there is no bound and the range has
-/// all keys, the rows are appended in one loop, with room made once for all. Otherwise, if there is no ceiling or
-/// no row is doomed, the rows are carried in bulk, in one pass over the pieces. Refused with `OutOfMemory` if no
-/// memory is found; rows carried before stay where they are.
+/// Carries the pending insertions in a range into the column, in order of arrival. A row at or above the ceiling
+/// isn't carried on but evicted: it becomes a pending insertion. The ceiling is at or above the range's high end, so
+/// no evicted row is in the range. One pass over the pending insertions, and O(log bounds + pieces on its way) for
+/// each carried row. If there is no bound and the range has all keys, the rows are appended in one loop, with room
+/// made once for all. Otherwise, if there is no ceiling or no row is doomed, the rows are carried in bulk, in one
+/// pass over the pieces. Refused with `OutOfMemory` if no memory is found; rows carried before stay where they are.
 pub fn carry_range(
     mut store: Store,
     range: KeyRange,
@@ -96,7 +96,8 @@ pub(crate) fn carry_at_once(store: &mut Store, range: KeyRange, first: usize) ->
     store.carry_in_bulk(range, first)
 }
 
-/// Like `carry_at_once`, but under a ceiling: rows at or above it that are replaced are evicted.
+/// Carries all pending insertions in a range at once, as `carry_at_once` does, but under a ceiling: a row at or above
+/// it whose place is taken becomes a pending insertion.
 fn carry_under(store: &mut Store, range: KeyRange, first: usize, ceiling: Bound) -> bool
     requires ceiling { range.high ≤ ceiling.0 }
     requires first { Finds range (keys_at store.old.cells store.old.pending_in) 0 (Some first) }
@@ -131,9 +132,9 @@ fn append_at_once(store: &mut Store) -> bool
     store.append_all().is_ok()
 }
 
-/// Carries the row in hand up through the pieces until a rule ends the carry, and returns that rule. In each step
-/// the row in hand takes the place where its own piece ends, and the row that was there comes into the hand. O(log
-/// bounds), and O(1) for each piece and for each bound at its place. Takes no memory.
+/// Carries the row in hand up through the pieces until it is to be buried, evicted or appended, and returns which of
+/// these. In each step the row in hand takes the place where its own piece ends, and the row that was there comes
+/// into the hand. O(log bounds), and O(1) for each piece and for each bound at its place. Takes no memory.
 pub(crate) fn carry(carrying: &mut Carrying, ceiling: Option<Bound>) -> CarryEnd
     ensures ends { MayEnd result carrying.new }
     ensures evicts { EvictsOver (ceiling_of ceiling) result (hand_key carrying.new) }
@@ -146,7 +147,8 @@ pub(crate) fn carry(carrying: &mut Carrying, ceiling: Option<Bound>) -> CarryEnd
     carrying.carry_up(ceiling)
 }
 
-/// Ends a carry by this rule.
+/// Ends a carry by this rule: buries the row in hand, evicts it to the pending insertions, or appends it to the
+/// column.
 pub(crate) fn end(carrying: Carrying, rule: CarryEnd) -> Store
     requires ends { MayEnd rule carrying }
     requires column_room { 0 < carrying.store.column_room }
@@ -160,7 +162,7 @@ pub(crate) fn end(carrying: Carrying, rule: CarryEnd) -> Store
     }
 }
 
-/// Ends a carry by this rule, and takes the pending insertion at this place into the hand.
+/// Ends a carry as `end` does, and takes the pending insertion at this place into the hand.
 pub(crate) fn end_and_lift(carrying: &mut Carrying, rule: CarryEnd, place: usize)
     requires ends { MayEnd rule carrying.old }
     requires column_room { 1 < carrying.old.store.column_room }

@@ -58,7 +58,8 @@ fn is_touched(store: &Store, range: KeyRange) -> bool
     store.first_in(range).is_some() || store.first_out(range).is_some()
 }
 
-/// Inserts all pending insertions, in order of arrival.
+/// Inserts all pending insertions, in order of arrival. Refused with `OutOfMemory` if no memory is found for one of
+/// them; rows inserted before stay where they are.
 fn put_in_all(mut store: Store) -> Result<Store, (Store, Refusal)>
     ensures ok { IfOk result (λ t. PutsIn Complete store t) }
     ensures all { IfOk result (λ t. t.pending_in ≡ []) }

@@ -1,4 +1,4 @@
-//! Pulls of doomed rows.
+//! Pulls, which delete the rows with pending deletions.
 ghost use Rattle.std.specs.Prelude.{◌≡◌, ◌<◌, ◌≤◌, ◌⊎◌, ℕ, None, length, Contains};
 ghost use Rattle.crack_arena.specs.Arena.{StandsAt};
 ghost use Rattle.crack_arena.specs.Rows.{keys_at};

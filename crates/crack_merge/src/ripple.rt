@@ -1,4 +1,6 @@
-//! The ripple merge: merges the pending rows in a range, and makes room near the range.
+//! The ripple merge: merges the pending rows in a range. It makes room for insertions just above the range, by
+//! evicting rows from there to the pending insertions, and fills the places of deleted rows with pending insertions
+//! from there.
 ghost use Rattle.std.specs.Prelude.{◌≡◌, ◌<◌, ◌≤◌, false, Ok, IsOk, IfOk, IfErr};
 ghost use Rattle.std.specs.List.{All};
 ghost use Rattle.crack_row.specs.declared.command.Policy.TheVariants.{Ripple};
@@ -13,13 +15,14 @@ use crate::report::counted_between;
 use crack_row::{KeyRange, Refusal};
 use crack_store::{MergeReport, Store};
 
-/// Merges the pending rows in the range, with room made near it. Other pending rows are merged only if they are
-/// fillers, or doomed rows in the way. The range must be cracked. An evicted row becomes a filler in this call, or
-/// is merged by a later call whose range needs it.
-/// O(pending rows) to find them. For each insertion, and for each deletion whose place a filler takes, O(pieces of
-/// the range); for each other deletion O(pieces). One search for the place of each doomed row. Refused with
-/// `OutOfMemory` if no memory is found for a pending insertion in the range or for a filler. Then rows inserted
-/// before stay where they are, no filler is merged, and only the doomed rows that the carries met are gone.
+/// Merges the pending rows in the range. Rows just above the range may be evicted: they become pending insertions.
+/// Other pending rows are merged only if they are fillers, which take the place of a deleted row, or doomed rows,
+/// with a pending deletion, that a carry or a pull meets. The range must be cracked. An evicted row becomes a filler
+/// in this call, or is merged by a later call whose range needs it. O(pending rows) to find them. For each insertion,
+/// and for each deletion whose place a filler takes, O(pieces of the range); for each other deletion O(pieces). One
+/// search for the place of each doomed row. Refused with `OutOfMemory` if no memory is found for a pending insertion
+/// in the range or for a filler. Then rows inserted before stay where they are, no filler is merged, and only the
+/// doomed rows that the carries met are gone.
 pub fn merge_ripple(store: Store, range: KeyRange) -> Result<(Store, MergeReport), (Store, Refusal)>
     requires some { range.low < range.high }
     requires low { store.keys.low ≤ range.low }

@@ -61,7 +61,8 @@ pub fn run_batch<Rt: Threads + Wait + Sync, G: Gate + Sync, R: Read, W: Write>(
     run_named::<Rt, G, R, W, Brand>(rt, alloc, table, policy, gate, reader, writer)
 }
 
-/// Answers the lines of an input over a table, once its book has its name `J`.
+/// Names the table's book `J`, opens the table, and answers the lines of an input over it. Refused as `run_batch` is,
+/// after the table's opening.
 fn run_named<Rt: Threads + Wait + Sync, G: Gate + Sync, R: Read, W: Write, J: Naming + Send + Sync>(
     rt: &Rt,
     alloc: Global,
@@ -84,7 +85,7 @@ fn run_named<Rt: Threads + Wait + Sync, G: Gate + Sync, R: Read, W: Write, J: Na
     }
 }
 
-/// Reads an input, and lets the workers serve it.
+/// Reads an input, and lets the workers serve it. Refused as `run_batch` is, up to the first session that is cut off.
 fn serve_input<Rt: Threads + Wait + Sync, G: Gate + Sync, R: Read, J: Naming + Send + Sync>(
     rt: &Rt,
     alloc: Global,
@@ -104,7 +105,8 @@ fn serve_input<Rt: Threads + Wait + Sync, G: Gate + Sync, R: Read, J: Naming + S
     crew_of(alloc, served)
 }
 
-/// Makes a desk for each worker.
+/// Makes a desk for each worker, which executes the commands of its session. Refused with `OutOfMemory` if no memory
+/// is found.
 fn desks_of<'a, Rt: Wait, G: Gate, J: Naming>(
     rt: &'a Rt,
     alloc: Global,
@@ -119,8 +121,8 @@ fn desks_of<'a, Rt: Wait, G: Gate, J: Naming>(
     Ok(desks)
 }
 
-/// Serves each share at a desk, on a thread of its own. Refused with `OutOfMemory` if a thread can't be started,
-/// once the others have ended.
+/// Serves each share of the lines as a session, at a desk and on a thread of its own. Refused with `OutOfMemory` if a
+/// thread can't be started, once the others have ended.
 fn serve_all<Rt: Threads + Wait, D: Desk + Send + Drop>(
     rt: &Rt,
     alloc: Global,
@@ -172,7 +174,8 @@ fn serve_share<D: Desk + Drop>(alloc: Global, desk: D, share: Vec<u8>, policy: P
     }
 }
 
-/// The workers and their outputs. Refused as the first session that was cut off.
+/// The workers and their outputs. Refused as the first session that was cut off, and with `OutOfMemory` if no memory
+/// is found.
 fn crew_of<Rt: Wait, G: Gate, J: Naming>(
     alloc: Global,
     served: Vec<Served<WorkerDesk<'_, Rt, G, J>>>,
@@ -191,7 +194,8 @@ fn crew_of<Rt: Wait, G: Gate, J: Naming>(
     Ok(crew)
 }
 
-/// Gathers the workers, and writes their outputs and the totals.
+/// Gathers the workers, and writes their outputs and the totals. Refused as `gather` is, and with `WriteFault` if the
+/// writer fails.
 fn report<W: Write, J: Naming>(
     alloc: Global,
     table: Table<J>,

@@ -1,10 +1,11 @@
-//! A gate that reports automatic checkpoints to a server's host.
+//! A gate that reports automatic checkpoints to the program that runs the server.
 use crate::ENTRIES_PER_NOTICE;
 use crack_service::{Host, Notice};
 use crack_table::Gate;
 use std::sync::atomic::{AtomicU64, Ordering};
 
-/// The gate of all workers of a server, and the counts for the next notice.
+/// The gate of all workers of a server: it consents if the program's own gate does, and counts checkpoints for the
+/// next notice to the host.
 #[derive(Drop)]
 pub(crate) struct Reporting<'a, G: Gate, H: Host> {
     gate: &'a G,
@@ -16,7 +17,7 @@ pub(crate) struct Reporting<'a, G: Gate, H: Host> {
 }
 
 impl<'a, G: Gate, H: Host> Reporting<'a, G, H> {
-    /// A gate that consents if `gate` does.
+    /// A gate that consents if `gate` does, and notifies this host.
     pub(crate) fn new(gate: &'a G, host: &'a H) -> Reporting<'a, G, H> {
         Reporting {
             gate,

@@ -129,8 +129,7 @@ abbrev pub IsAnswer : Bounds → List Bound → List PlainView → Reading → A
 IsAnswer bounds splits tables (Err e) answer new = (answer ≡ Refused e) × (new ≡ tables)
 IsAnswer bounds splits tables (Ok statement) answer new = IsAnswerTo bounds splits tables statement answer new
 
--- whether a refusal is for lack of room: the history is full (6), no memory (8) or no cell (9) was found, or the
--- partition accepts no more commands (10)
+-- whether a refusal is for lack of room: `HistoryFull`, `OutOfMemory`, `NoCell` or `LifeOver`
 abbrev pub is_short : Refusal → Bool
 is_short refusal = list_any (λ code. code == code_of refusal) (6 ∷ 8 ∷ 9 ∷ 10 ∷ [])
 

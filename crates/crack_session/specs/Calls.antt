@@ -1,4 +1,5 @@
--- The calls of a desk, and the answers that a session makes of their outcomes, whether or not the rows are known.
+-- The calls of a desk, and the answers that a session makes of their outcomes, whether or not the rows are known. A
+-- desk is what executes the commands of a session: a table of one thread, or a worker of a shared table.
 use Rattle.std.specs.Prelude.{◌≡◌, ℕ, ◌+◌, List, [], ◌∷◌, ◌++◌, ◌⊎◌, length, Option, None, Result, Ok, Err}
 use Rattle.crack_row.specs.Ranges.{Range}
 use Rattle.crack_row.specs.declared.Bound.{Bound}
@@ -92,7 +93,7 @@ IsMadeOf splits policy (Policy other) answer calls = (answer ≡ Set other) × (
 IsMadeOf splits policy Ping answer calls = (answer ≡ Pong) × (calls ≡ [])
 IsMadeOf splits policy (End ending) answer calls = (answer ≡ farewell ending) × (calls ≡ [])
 
--- the same for a parsed line: one that is no statement makes no call
+-- the answer to a parsed line is made of exactly these calls: those for its statement, or none if it is no statement
 abbrev pub IsReadingMadeOf : List Bound → MergePolicy → Reading → Answer → List Call → Type 0
 IsReadingMadeOf splits policy (Err e) answer calls = (answer ≡ Refused e) × (calls ≡ [])
 IsReadingMadeOf splits policy (Ok statement) answer calls = IsMadeOf splits policy statement answer calls

@@ -60,7 +60,7 @@ pub enum Answer {
 }
 
 impl Answer {
-    /// Whether the answer is a refusal for lack of room.
+    /// Whether the answer is a refusal for lack of room: `HistoryFull`, `OutOfMemory`, `NoCell` or `LifeOver`.
     pub fn is_short(&self) -> bool
         ensures { result ≡ is_short_answer self.now }
     {
@@ -137,7 +137,7 @@ pub fn part_with_key<D: Desk>(desk: &D, key: Key) -> u32
     route(desk.splits(), key)
 }
 
-/// Executes a command on one partition.
+/// Executes a command on one partition, and answers with its reply, or with the refusal of the desk.
 #[inline(never)]
 fn ask_part<D: Desk>(desk: &mut D, policy: Policy, part: u32, command: Command) -> Answer
     ensures { AsksDesk D.bounds D.splits D.tables D.leads (λ bounds splits tables. IsAsked bounds splits tables part
@@ -170,7 +170,7 @@ fn ask_range<D: Desk>(
     }
 }
 
-/// A borrowed desk, whose partitions are queried in turn.
+/// A borrowed desk, whose partitions `ask_parts` can ask in turn.
 #[derive(Drop)]
 struct Lent<'a, D> {
     desk: &'a mut D,
@@ -226,7 +226,7 @@ fn ask_lent<D: Desk>(
     }
 }
 
-/// Returns the layout of one partition.
+/// Answers with the layout of one partition, or with the refusal of the desk.
 fn lay_out<D: Desk>(desk: &D, part: u32) -> Answer
     ensures { AsksDesk D.bounds D.splits D.tables D.leads (λ bounds splits tables new. IsLaidOut splits tables part
         result × (new ≡ tables)) (λ splits calls. (outcome : Result Layout Refusal) × (calls ≡ Looked part outcome ∷
@@ -238,7 +238,8 @@ fn lay_out<D: Desk>(desk: &D, part: u32) -> Answer
     }
 }
 
-/// Makes a checkpoint of one partition.
+/// Makes a checkpoint of one partition, and answers with the number of its commands since the last one, or with the
+/// refusal of the desk.
 fn fold_part<D: Desk>(desk: &mut D, part: u32) -> Answer
     ensures { AsksDesk D.bounds D.splits D.tables D.leads (λ bounds splits tables. IsFolded tables part result)
         (λ splits calls. (outcome : Result ℕ Refusal) × (calls ≡ Checkpointed part outcome ∷ []) ×

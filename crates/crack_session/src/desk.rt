@@ -1,4 +1,4 @@
-//! Desks: tables that execute the commands of a session.
+//! Desks, which execute the commands of a session.
 ghost use Rattle.std.specs.Prelude.{◌≡◌, ℕ, ◌+◌, List, length, All, is_ok, Some, IfOk, slice_get, if◌then◌else◌};
 ghost use Rattle.crack_plain.specs.Plain.{PlainView, IsNumbered, IsSmall, checkpointed};
 ghost use Rattle.crack_core.specs.Routes.{AreSplits, keys_of_part};
@@ -10,7 +10,8 @@ use crack_commands::Traffic;
 use crack_plain::Statistics;
 use crack_row::{Bound, Command, Layout, Policy, Refusal, Reply};
 
-/// A desk: a table that executes one command after another. Its keys are divided into partitions, numbered from 0.
+/// A desk executes the commands of a session, one after another: it is a table of one thread (`Core`), or a worker of
+/// a shared table (`WorkerDesk`). The keys of its table are divided into partitions, numbered from 0.
 pub trait Desk {
     ghost use Rattle.std.specs.Prelude.{ℕ, Option, List};
     ghost use Rattle.crack_row.specs.declared.Bound.{Bound};

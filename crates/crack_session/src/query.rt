@@ -7,7 +7,7 @@ use crate::answer::Answer;
 use crack_core::{PartReply, Query, rows_told, sum_told};
 use std::marker::Model;
 
-/// The replies of several partitions, in the order of the queries. Contracts see a list.
+/// The replies of several partitions to one query, in the order in which they were asked. Contracts see a list.
 #[derive(Drop)]
 pub struct ReplyList {
     replies: Vec<PartReply>,

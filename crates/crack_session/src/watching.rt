@@ -13,7 +13,7 @@ use crate::desk::Desk;
 use crack_plain::Statistics;
 use crack_row::Refusal;
 
-/// Answers with the statistics of one partition.
+/// Answers with the statistics of one partition, or with the refusal of the desk.
 pub fn watch_part<D: Desk>(desk: &D, part: u32) -> Answer
     ensures { AsksDesk D.bounds D.splits D.tables D.leads (λ bounds splits tables new. IsWatched tables part result ×
         (new ≡ tables)) (λ splits calls. (outcome : Result Statistics Refusal) × (calls ≡ Measured part outcome ∷ []) ×

@@ -1,4 +1,5 @@
--- When receipts cover lists of entries, one for each partition, and which place a fault names.
+-- When receipts cover lists of entries, one for each partition, and which place a fault names. A place is a
+-- partition's number and a position in its list.
 use Rattle.std.specs.Prelude.{ℕ, Bool, List, [], ◌∷◌, ◌++◌, ◌≡◌, ◌<◌, ◌⊎◌, ◌&&◌, ◌==◌, nat_le, not, Option, Some, None, is_some, slice_get, filter, find, All, AllPairs, if◌then◌else◌, true, length}
 use Rattle.std.specs.List.{list_any}
 use Rattle.std.specs.Option.{option_and_then}

@@ -25,7 +25,7 @@ missing_below number_of workers (suc number) = missing_below number_of workers n
 abbrev pub held_by : List WitnessedState → List Part
 held_by parts = map (λ (w : WitnessedState). w.held) parts
 
--- the partition has the table's limits, and the keys of this number
+-- the partition has the table's limits, and the keys of the table's partition with this number
 abbrev pub IsTables : List Bound → Limits → ℕ → Part → Type 0
 IsTables splits limits part p = (p.keys ≡ keys_of_part splits part) × (p.limits ≡ limits)
 
@@ -54,13 +54,13 @@ pub record IsTablesAt (splits : List Bound) (limits : Limits) (workers : ℕ) (a
   pub listed : is_some w.entries ≡ audited
   pub tables : IsTables splits limits place w.held
 
--- the first place whose partition isn't the table's
+-- the first place whose partition isn't the table's by `IsTablesAt`
 abbrev pub IsFirstStrange : List Bound → Limits → ℕ → Bool → List WitnessedState → ℕ → Type 0
 IsFirstStrange splits limits workers audited parts place =
     (w : WitnessedState) × (slice_get parts place ≡ Some w) × (IsTablesAt splits limits workers audited place w → ⊥)
     × ((earlier : ℕ) (v : WitnessedState) → earlier < place → slice_get parts earlier ≡ Some v → IsTablesAt splits limits workers audited earlier v)
 
--- each partition is whole and sound
+-- each partition is whole (`IsWhole`) and sound (`IsSound`)
 abbrev pub AreWhole : (ℕ → ℕ) → List WitnessedState → Type 0
 AreWhole owner parts = All (λ (w : WitnessedState). IsWhole owner w × IsSound w.held) parts
 

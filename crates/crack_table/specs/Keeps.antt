@@ -8,7 +8,7 @@ use Rattle.crack_core.specs.Routes.{AreSplits}
 use Rattle.crack_witness.specs.Witnesses.{AreApart, AreDistinct, WitnessedState}
 
 -- the invariant of a table whose book has no name yet: its arguments are valid, and each partition has an owner of
--- its own in the book
+-- its own, a number in the book
 pub record IsUnnamed (ids : List ℕ) (splits : List Bound) (limits : Limits) (workers : ℕ) : Type 0 where
   pub rising : AreSplits splits
   pub limited : AreLimits limits

@@ -1,4 +1,4 @@
-//! A command after its gate, under the lock.
+//! A worker's command under a partition's lock: the gate is asked first, and then the partition.
 ghost use Rattle.std.specs.Prelude.{◌≡◌, ◌⊎◌, ℕ, ◌+◌, ◌<◌, ◌≤◌, [], ◌∷◌, ◌++◌, length, Err, IfOk, IfErr, OnErr, OnOk};
 ghost use Rattle.std.specs.Prelude.{Ok, None, IfSome, MatchResult, slice_index_or, slice_set};
 ghost use mathlib.Core.List.{IsPrefix};
@@ -17,10 +17,10 @@ use crack_row::{Command, Policy, Refusal, Reply};
 use crack_witness::{Naming, Witnessed, Worker};
 
 /// Asks the gate until it consents, and then the partition, which must have number `part`, for the worker. The
-/// partition stays borrowed from the gate's first turn to the reply, so its lock can't be released in between.
+/// partition stays borrowed from the first call of the gate to the reply, so its lock can't be released in between.
 /// Returns the outcome of asking the partition, which may be a refusal, and sets `folded` to how many commands a
-/// checkpoint that was due added to the base, or to 0. Refused with `GateGaveUp` if the gate refuses at each turn:
-/// then worker and partition are as they were.
+/// checkpoint that was due added to the base, or to 0. Refused with `GateGaveUp` if the gate refuses `GATE_TURNS`
+/// times: then worker and partition are as they were.
 pub(crate) fn ask_behind<J: Naming, G: Gate>(
     gate: &G,
     worker: &mut Worker<J>,

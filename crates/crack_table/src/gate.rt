@@ -1,4 +1,5 @@
-//! Gates, which may delay or refuse a command under a partition's lock, and note checkpoints that were due.
+//! Gates: code of a program that may delay or refuse a command under a partition's lock, and is notified of
+//! checkpoints that were due.
 ghost use Rattle.std.specs.Prelude.{◌≡◌, ◌<◌, ℕ, IfErr};
 ghost use Rattle.std.specs.Bool.{OnFalse};
 ghost use Rattle.crack_table.specs.declared.TheConstants.{GATE_TURNS};
@@ -6,13 +7,15 @@ ghost use Rattle.crack_table.specs.declared.TheConstants.{GATE_TURNS};
 use crate::GATE_TURNS;
 use crack_row::Refusal;
 
-/// Decides, while a partition's lock is held, whether a command may go on. A server or a test can wait here.
+/// A gate decides, while a partition's lock is held, whether a worker's command is executed. Each of its calls for a
+/// command is a turn: after a refusal it is called again, at most `GATE_TURNS` times. A program or a test can wait
+/// here.
 pub trait Gate {
-    /// When the gate may refuse: at this partition, at this turn.
+    /// Whether the gate may refuse at this partition, at this turn.
     ghost may_refuse: { Self → ℕ → ℕ → Type 0 };
 
-    /// Whether a command may go on. Called under the lock of partition `part`, with turn 0, 1, .. until it returns
-    /// true, at most `GATE_TURNS` times in one call.
+    /// Whether a command may be executed. Called under the lock of partition `part`, with turn 0, 1, .. until it
+    /// returns true, at most `GATE_TURNS` times in one call.
     fn inside(&self, part: u32, turn: u32) -> bool
         ensures { OnFalse result (may_refuse self.now part turn) };
 
@@ -36,7 +39,7 @@ impl Gate for OpenGate {
     }
 }
 
-/// Asks a gate until it consents. Refused with `GateGaveUp` if it refuses at each turn.
+/// Asks a gate until it consents. Refused with `GateGaveUp` if it refuses `GATE_TURNS` times.
 pub(crate) fn pass<G: Gate>(gate: &G, part: u32) -> Result<(), Refusal>
     ensures cause { IfErr result (λ e. e ≡ Refusal.GateGaveUp) }
     ensures turns { IfErr result (λ _. (turn : ℕ) → turn < GATE_TURNS → G.may_refuse gate.now part turn) }

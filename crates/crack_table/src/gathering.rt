@@ -1,4 +1,4 @@
-//! Closing a table: its workers are gathered.
+//! Closing a table: its workers are gathered, which means that all are handed back and compared with the partitions.
 ghost use Rattle.std.specs.Prelude.{◌≡◌, ℕ, ◌+◌, ◌<◌, ◌≤◌, ◌==◌, length, All, IfOk, IfErr, IfNone, IfSome, IsTrue};
 ghost use Rattle.std.specs.Prelude.{OnOk, OnErr, ◌↔◌, true, is_some, if◌then◌else◌, vec_len};
 ghost use Rattle.std.specs.List.{list_any};
@@ -191,7 +191,7 @@ pub(crate) fn facts<J: Naming>(parts: &Vec<Witnessed<J>>)
     }
 }
 
-/// The first partition that isn't the table's at its place.
+/// The place of the first partition that isn't as the table was opened, by `is_tables_at`.
 fn first_strange<J: Naming>(
     splits: &[Bound],
     limits: Limits,

@@ -25,5 +25,5 @@ pub use table::Table;
 /// The greatest number of workers that a table may have.
 pub const MOST_WORKERS: u64 = 64;
 
-/// The greatest number of times that a gate is asked in one call.
+/// The greatest number of times that a gate is asked for one command.
 pub const GATE_TURNS: u32 = 1000;

@@ -1,4 +1,5 @@
-//! Opening a table in two steps: first its book; then, when the book has its name, its partitions and its workers.
+//! Opening a table in two steps: first its book, which lists the entries of all partitions and exists only in proofs;
+//! then, once a type `J` names this book, its partitions and its workers.
 ghost use Rattle.std.specs.Prelude.{◌≡◌, ◌≢◌, ℕ, ◌+◌, ◌<◌, ◌≤◌, AllPairs, length, IfOk, IfErr, OnOk, None};
 ghost use Rattle.crack_row.specs.Limits.{AreLimits};
 ghost use Rattle.crack_core.specs.Opening.{MayFault};
@@ -16,8 +17,8 @@ use crack_witness::{Front, Naming, Opened, Worker};
 use std::alloc::{AllocError, Global};
 use std::marker::Model;
 
-/// A table that is to be opened, and the book of its replies, which has no name yet. Contracts see what the table is
-/// opened with, and the book, with an owner for each partition.
+/// A table that is to be opened, and its book, which has no name yet. Contracts see what the table is opened with,
+/// and the book, with the owner of each partition: its number in the book.
 #[derive(Drop)]
 pub struct UnnamedTable {
     opened: Opened,
@@ -76,7 +77,7 @@ impl UnnamedTable {
         })
     }
 
-    /// The second step, when the book has its name: opens the table, without rows, and its workers, numbered from 0.
+    /// The second step, which names the book `J`: opens the table, without rows, and its workers, numbered from 0.
     /// Refused with `OutOfMemory` if no memory is found. O(partitions × workers).
     pub fn named<J: Naming>(self, alloc: Global) -> Result<(Table<J>, Vec<Worker<J>>), Refusal>
         requires names { AreNames J.book J.owner self.opened }

@@ -1,4 +1,4 @@
-//! Whether one worker's receipts in one partition rise.
+//! Whether the receipts of each worker in each partition name rising places.
 ghost use Rattle.std.specs.Prelude.{◌≡◌, List, [], ◌++◌, IfOk, None};
 ghost use Rattle.std.specs.BTreeMap.{get};
 ghost use Rattle.std.specs.List.{flat_map};
@@ -11,7 +11,9 @@ use crack_witness::Receipt;
 use std::alloc::{AllocError, Global};
 use std::collections::BTreeMap;
 
-/// The place of the first receipt whose place isn't above that of an earlier one of its worker in its partition.
+/// The place, a partition and a position, of the first receipt that isn't above an earlier one of its worker in its
+/// partition. `None` if there is no such receipt. O(receipts), up to a logarithm of the workers and partitions that
+/// they name.
 pub(crate) fn first_late(
     alloc: Global,
     receipts: &[&[Receipt]],
@@ -28,7 +30,7 @@ pub(crate) fn first_late(
     Ok(None)
 }
 
-/// The same for one list, after others. `last` maps each worker and partition to the last position.
+/// As `first_late` for one list, after others. `last` maps each worker and partition to the last position so far.
 fn first_late_in(
     last: &mut BTreeMap<(u32, u32), u64>,
     list: &[Receipt],

@@ -14,9 +14,10 @@ use crack_witness::{Naming, Witnessed, Worker};
 use std::marker::Model;
 use std::sync::{Mutex, Wait};
 
-/// A table: partitions, each in a lock with the scribe of its history. Many threads may share a table, and its workers
-/// ask it. With an audit each partition lists its entries, and each worker keeps its receipts. Contracts see what the
-/// table was opened with; the workers' own state has the events that they have seen.
+/// A table: partitions, each in a lock with its history, which exists only in proofs. Many threads may share a table;
+/// each asks it through a worker of its own. With an audit each partition lists its entries, and each worker keeps
+/// its receipts. Contracts see what the table was opened with; the workers' own state has the events that they have
+/// seen.
 #[derive(Drop)]
 pub struct Table<J: Naming> {
     pub(crate) locks: Vec<Mutex<Witnessed<J>>>,
@@ -73,13 +74,14 @@ impl<J: Naming> Table<J> {
         self.workers
     }
 
-    /// Asks partition `part` for a worker, under its lock, for which it may wait. Refused, in this order: with
-    /// `NoSuchPartition` if there is no such partition; under the lock with `GateGaveUp` if the gate refuses at each
-    /// turn; if the worker is another table's, with `NoSuchPartition` or with `StrangeReceipt`, which carries `part`
-    /// and the number of its replies there; then as `Partition::apply` is, with `KeyOutside`, `HistoryFull`,
-    /// `LifeOver`, `NoCell` and `OutOfMemory`. After a refusal nothing was seen or written. The gate is notified of a
-    /// checkpoint that was due. Costs, beyond `Partition::apply`, O(1) and the gate's turns, and no memory; with an
-    /// audit O(1), amortised, the copies of a select's list, and the memory of an entry and a receipt.
+    /// Executes a worker's command on partition `part`, under the partition's lock, for which it may wait. Refused,
+    /// in this order: with `NoSuchPartition` if there is no such partition; under the lock with `GateGaveUp` if the
+    /// gate refuses `GATE_TURNS` times; if the worker is another table's, with `NoSuchPartition` or with
+    /// `StrangeReceipt`, which carries `part` and the number of its replies there; then as `Partition::apply` is,
+    /// with `KeyOutside`, `HistoryFull`, `LifeOver`, `NoCell` and `OutOfMemory`. After a refusal nothing was seen or
+    /// written. The gate is notified of a checkpoint that was due. Costs, beyond `Partition::apply`, O(1) and the
+    /// calls of the gate, and no memory; with an audit O(1), amortised, the copies of a select's list, and the memory
+    /// of an entry and a receipt.
     pub fn ask<R: Wait, G: Gate>(
         &self,
         rt: &R,

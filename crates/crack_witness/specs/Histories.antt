@@ -1,4 +1,5 @@
--- The history of each owner in the events of a book, and the plain table after that history.
+-- The history of each owner in the events of a book, and the plain table after that history. A book is the list of
+-- the events of all partitions; a partition's owner is its number there.
 use Rattle.std.specs.Prelude.{◌≡◌, ◌≢◌, ℕ, ◌==◌, List, [], ◌∷◌, ◌++◌, length, take, drop, option_to_list, filter, if◌then◌else◌}
 use Rattle.crack_row.specs.declared.command.Entry.{Entry}
 use Rattle.crack_row.specs.declared.limit.Limits.{Limits}
@@ -7,7 +8,7 @@ use Rattle.crack_plain.specs.Past.{Past, no_base, base_after, state_after, folde
 use Rattle.crack_part.specs.Upkeep.{is_due}
 use Rattle.crack_witness.specs.declared.event.Event.{Event}
 
--- the entries of one owner, in order
+-- the entries of one owner among the events, in order
 abbrev pub history_of : ℕ → List Event → List Entry
 history_of owner [] = []
 history_of owner (e ∷ es) = (if e.owner == owner then option_to_list e.entry else []) ++ history_of owner es

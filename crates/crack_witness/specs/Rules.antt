@@ -1,4 +1,6 @@
--- The rule of a book, and the results of its steps.
+-- The rule of a book, and the results of its steps. Beside its events the book has cells, each with a flag. An event
+-- names the cell whose flag the next event of its owner sets; a cell whose flag is set is at home. A pen is the right
+-- to set the flag of one cell.
 use Rattle.std.specs.Prelude.{ℕ, zero, suc, ◌≡◌, ◌<◌, List, [], ◌∷◌, ◌++◌, length, None, true}
 use mathlib.Core.List.{IsPrefix}
 use Rattle.logbook.specs.Pages.{Cell, cell, Step, View, Book, may_make}
@@ -43,11 +45,11 @@ row (suc n) = row n ++ place n ∷ []
 abbrev pub opening : ℕ → ℕ → Event
 opening owner word = record { owner = owner; next = owner; word = word; entry = None }
 
--- gives a fresh pen
+-- a step gives a new pen
 abbrev pub Makes : Step Event → View Event ℕ → ℕ → View Event ℕ → Type 0
 Makes s v found w = w.1.0.right ≡ may_make
 
--- gives a fresh pen, whose key names an owner that had no event, and adds its first one
+-- a step gives a new pen, whose key is the number of an owner that had no event, and adds this owner's first event
 abbrev pub Opens : Step Event → View Event ℕ → ℕ → View Event ℕ → Type 0
 Opens s v found w =
     (w.1.0.right ≡ may_make)
@@ -58,20 +60,20 @@ Opens s v found w =
 abbrev pub IsAlone : ℕ → ℕ → List Event → Type 0
 IsAlone owner key log = (xs : List Event) (d : Event) (rest : List Event) → log ≡ (xs ++ d ∷ []) ++ rest → d.owner ≡ owner → d.next ≡ key → NoneOf owner rest
 
--- adds an event; an earlier event of its owner that names the pen's cell was the owner's last
+-- a step adds an event; if an earlier event of the same owner names the pen's cell, it was the owner's last one
 abbrev pub Adds : Step Event → View Event ℕ → ℕ → View Event ℕ → Type 0
 Adds s v found w = (log : List Event) × (w.0 ≡ log ++ s.ask ∷ []) × IsPrefix v.0 log × IsAlone s.ask.owner v.1.0.key log × AreHistories w.0
 
--- keeps the pen; each event that names its cell is the last of its owner
+-- a step keeps the pen; each event that names the pen's cell is the last one of its owner
 abbrev pub Looks : Step Event → View Event ℕ → ℕ → View Event ℕ → Type 0
 Looks s v found w = (w.1.0 ≡ v.1.0) × ((owner : ℕ) → IsAlone owner v.1.0.key w.0)
 
--- a scribe's partition, and the events that it has seen
+-- what contracts see of a scribe: its partition's number, and the events that it has seen
 pub record ScribeState : Type 0 where
   pub part : ℕ
   pub log : List Event
 
--- an owner: its book, its number there, and the events that it has seen
+-- what contracts see of an owner: its book, its number there, and the events that it has seen
 pub record OwnerState : Type 0 where
   pub book : Book
   pub id : ℕ

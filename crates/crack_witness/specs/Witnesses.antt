@@ -1,4 +1,5 @@
--- What contracts see of an opened book, of witnessed partitions and of their workers.
+-- What contracts see of an opened book, of witnessed partitions and of their workers. A book is the list of the
+-- events of all partitions, which exists only in proofs; a partition's owner is its number there.
 use Rattle.std.specs.Prelude.{◌≡◌, ◌≢◌, Bool, ℕ, ◌+◌, ◌<◌, ◌≤◌, ◌⊎◌, List, [], ◌∷◌, ◌++◌, length, sum_by, take, All, Any, AllPairs, Option, Some, IfSome, unwrap_or, slice_index_or, replicate}
 use mathlib.Core.List.{IsPrefix}
 use Rattle.logbook.specs.Pages.{Book}
@@ -15,7 +16,7 @@ use Rattle.crack_witness.specs.declared.event.Event.{Event}
 use Rattle.crack_witness.specs.Audits.{empty_list}
 use Rattle.crack_witness.specs.Histories.{history_of, calls_by, calls_at, AreHistories, AreEmpty, IsPastOf, past_in}
 
--- a book, and the number of each owner in it
+-- a new book, and the number of each partition's owner in it
 pub record OpenedState : Type 0 where
   pub book : Book
   pub ids : List ℕ
@@ -24,7 +25,7 @@ pub record OpenedState : Type 0 where
 abbrev pub AreDistinct : List ℕ → Type 0
 AreDistinct ids = AllPairs (λ (one other : ℕ). one ≢ other) ids
 
--- this is the opened book, and the owner of each partition is the one at its number
+-- the book is the opened one, and each partition's owner is the one at the partition's number
 pub record AreNames (book : Book) (owner : ℕ → ℕ) (opened : OpenedState) : Type 0 where
   pub book_is : book ≡ opened.book
   pub owner_is : (part : ℕ) → owner part ≡ slice_index_or opened.ids part 0

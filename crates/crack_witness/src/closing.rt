@@ -1,4 +1,4 @@
-//! Comparing partitions with workers, at the end of a book.
+//! Comparing partitions with workers, when a table is closed.
 ghost use Rattle.std.specs.Prelude.{◌≡◌, All, Any, IfNone, IfSome, IfErr, OnOk};
 ghost use Rattle.crack_witness.specs.Witnesses.{WorkerState, WitnessedState, Agrees, Differs, MayDiffer};
 ghost use Rattle.crack_witness.specs.Witnesses.{replies_at};
@@ -30,7 +30,8 @@ pub fn compare<J: Naming>(
     Ok(())
 }
 
-/// How many replies the first worker that differs from the partition received there, if one differs.
+/// Looks for a worker that received another number of replies from the partition than the partition's history has
+/// entries of it. Returns the number of replies of the first one, or `None` if there is none. O(workers).
 fn first_difference<J: Naming>(workers: &Vec<Worker<J>>, part: &mut Witnessed<J>) -> Option<u64>
     ensures same { part.new ≡ part.old }
     ensures none { IfNone result (All (λ (a : WorkerState). Agrees J.owner a part.old) workers.now.items) }

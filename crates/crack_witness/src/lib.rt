@@ -1,5 +1,5 @@
 //! A witness for each reply: one history of each partition, which all workers see and which exists only in proofs. A
-//! lock holds a partition with its scribe.
+//! lock holds a partition with its scribe, which adds each reply to the history.
 #![tactic(auto)]
 
 pub mod closing;

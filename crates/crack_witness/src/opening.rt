@@ -1,4 +1,4 @@
-//! Opening a book, with an owner for each partition.
+//! Opening the book of a table, with an owner for each partition: the number by which the book knows it.
 ghost use Rattle.std.specs.Prelude.{◌≡◌, ◌+◌, ◌<◌, ◌≤◌, ◌^◌, [], length, map, All, true, IfOk, vec_len};
 ghost use mathlib.Core.List.{IsPrefix};
 ghost use Rattle.crack_part.specs.Parts.{Part, table_of};
@@ -15,8 +15,9 @@ use logbook::{Pen, Pens, Start};
 use std::alloc::{AllocError, Global};
 use std::marker::{Brand, Model};
 
-/// The identity of a book, and the number of each partition's owner in it. A program chooses it once, for the book
-/// that it opened.
+/// The name of a book, which exists only in proofs: which book it is, and the number of each partition's owner in it.
+/// A program names a book once, after opening it. The name is a type `J`, the parameter of all that belongs to this
+/// book.
 pub trait Naming {
     ghost use Rattle.std.specs.Prelude.{ℕ};
     ghost use Rattle.logbook.specs.Pages.{Book};
@@ -32,7 +33,7 @@ impl Naming for Brand {
     ghost owner = { λ part. 0 };
 }
 
-/// An owner in a book: the writer of one partition's entries, with none yet.
+/// An owner in a book: what its scribe is made of, for one partition without entries.
 #[derive(Drop)]
 pub(crate) struct Owner {
     pub(crate) word: Head,
@@ -54,8 +55,8 @@ impl Model for Owner {
 }
 
 impl Owner {
-    /// Makes a new owner of this word, by one step on the word. The events seen before had none of the owner; those
-    /// seen now have one.
+    /// Makes an owner with this word, by one step on the word, which adds the owner's first event. No event before it
+    /// is the owner's.
     fn open(word: Head, seen: &mut Token) -> Owner
         requires { (word.tracked ≡ true) × (seen.old.book ≡ word.book) × HasWord word.key seen.old.log }
         ensures book { (result.book ≡ seen.old.book) × (seen.new.book ≡ seen.old.book) }
@@ -78,7 +79,8 @@ impl Owner {
     }
 }
 
-/// A new book, with its owners. Contracts see the book, and the owners' numbers in it, which exist only in proofs.
+/// A new book with its owners, which has no name yet. Contracts see the book, and the owners' numbers in it, which
+/// exist only in proofs.
 #[derive(Drop)]
 pub struct Opened {
     seen: Token,
@@ -119,9 +121,9 @@ impl Opened {
         Ok(Opened { seen, owners })
     }
 
-    /// The events that a worker begins with, and the partitions with their scribes, in order, once the book has its
-    /// name. Each partition counts the entries of this many workers, and lists them if there is an audit.
-    /// O(partitions × workers).
+    /// Gives the book its name `J`. Returns the events that a worker begins with, and the partitions with their
+    /// scribes, in order. Each partition counts the entries of this many workers, and with an audit keeps a list of
+    /// all its entries. Refused if no memory is found. O(partitions × workers).
     pub fn witness<J: Naming>(
         self,
         alloc: Global,
@@ -142,7 +144,7 @@ impl Opened {
         Ok((front, witnessed))
     }
 
-    /// The events that a worker begins with, and the owners.
+    /// Gives the book its name `J`. Returns the events that a worker begins with, and the owners, in order.
     fn named<J: Naming>(self) -> (Front<J>, Vec<Owner>)
         requires { AreNames J.book J.owner self }
         ensures owners { AreOwners J.book J.owner result.1.items }
@@ -155,7 +157,7 @@ impl Opened {
     }
 }
 
-/// The owner of the next word of a row.
+/// Makes the next word of a new book, and an owner with it. `pens` are the rights to make these words, in order.
 fn next_owner(pens: &mut Pens, seen: &mut Token) -> Owner
     requires { (0 < pens.old.left) × (pens.old.book ≡ seen.old.book) × IsPrefix (row (pens.old.next + pens.old.left))
         seen.old.log }
@@ -172,7 +174,8 @@ fn next_owner(pens: &mut Pens, seen: &mut Token) -> Owner
     Owner::open(word, seen)
 }
 
-/// Partitions with the scribes of these owners, in order.
+/// Joins each partition with the scribe of its owner, in order, and leaves both lists empty. Refused if no memory is
+/// found.
 fn witness_each<J: Naming>(
     alloc: Global,
     owners: &mut Vec<Owner>,

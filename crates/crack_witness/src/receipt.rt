@@ -1,4 +1,4 @@
-//! Receipts.
+//! Receipts, which workers keep with an audit.
 
 use crack_row::{Command, Reply};
 

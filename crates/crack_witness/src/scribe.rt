@@ -1,5 +1,5 @@
-//! Scribes, which write the entries of a partition into the book, and fronts, which say how much of the book was
-//! seen.
+//! A scribe adds the entries of one partition to the book. A front is a prefix of the book: the events that a worker
+//! has seen.
 ghost use Rattle.std.specs.Prelude.{◌≡◌, [], ◌∷◌, ◌++◌, true};
 ghost use mathlib.Core.List.{IsPrefix};
 ghost use Rattle.logbook.specs.Pages.{may_write};
@@ -13,7 +13,8 @@ use crack_row::{Command, Reply};
 use logbook::{Pen, Plain};
 use std::marker::{Model, PhantomData};
 
-/// A prefix of the book: the events that someone has seen. It has no bytes. Contracts see the events.
+/// A front: the events of the book that its holder, a worker, has seen. They are a prefix of the book. It has no
+/// bytes. Contracts see the events.
 #[derive(Drop)]
 pub struct Front<J: Naming> {
     seen: Token,
@@ -33,7 +34,7 @@ impl<J: Naming> Model for Front<J> {
 }
 
 impl<J: Naming> Front<J> {
-    /// The events that a token has seen.
+    /// The front with the events that a token has seen.
     pub(crate) fn new(seen: Token) -> Front<J>
         requires book { seen.book ≡ J.book }
         requires legal { AreHistories seen.log }
@@ -45,7 +46,7 @@ impl<J: Naming> Front<J> {
         }
     }
 
-    /// A copy.
+    /// A copy of the front.
     pub fn again(&self) -> Front<J>
         ensures { result ≡ self.now }
     {
@@ -63,7 +64,7 @@ impl<J: Naming> Front<J> {
     }
 }
 
-/// An entry of a partition that is to be written, and the pen for the entry after it.
+/// An entry that is to be added to the book, and the pen for the partition's entry after it.
 #[derive(Drop)]
 pub(crate) struct Asked<'a, J: Naming> {
     part: u32,
@@ -88,8 +89,8 @@ impl<'a, J: Naming> Plain<Asked<'a, J>, Event, u64> for Add {
     ghost state = { λ a. None };
 }
 
-/// Writes the entries of one partition into the book. Contracts see the partition's number, and the events that the
-/// scribe has seen.
+/// A scribe, which adds the entries of one partition to the book. Its pen is the right to add the next one. Contracts
+/// see the partition's number, and the events that the scribe has seen.
 #[derive(Drop)]
 pub(crate) struct Scribe<J: Naming> {
     part: u32,
@@ -137,8 +138,8 @@ impl<J: Naming> Scribe<J> {
         self.part
     }
 
-    /// Writes an entry after all events that the scribe and the asking worker have seen. O(1): two steps on the
-    /// partition's own word.
+    /// Adds an entry to the book, after all events that the scribe and the asking worker, whose front is `me`, have
+    /// seen. Both have then seen it. O(1): two steps on the partition's word.
     pub(crate) fn write(&mut self, me: &mut Front<J>, worker: u32, command: &Command, reply: &Reply)
         requires { AreReplies no_rows (history_of (J.owner self.old.part) self.old.log ++ record {
           worker = worker;
@@ -174,7 +175,8 @@ impl<J: Naming> Scribe<J> {
         me.seen = token;
     }
 
-    /// States that what `front` has seen of the partition's history is a prefix of what the scribe has. O(1).
+    /// States that the partition's entries in `front` are a prefix of its history, as the scribe has written it.
+    /// O(1): a step on the partition's word.
     pub(crate) fn covers(&mut self, front: &Front<J>)
         ensures same { self.new ≡ self.old }
         ensures begins { IsPrefix (history_of (J.owner self.old.part) front.now) (history_of (J.owner self.old.part)
@@ -188,7 +190,7 @@ impl<J: Naming> Scribe<J> {
     }
 }
 
-/// Makes a pen that may write, by one step on the word.
+/// Makes a pen for one more entry, by one step on the partition's word.
 fn fresh(word: &Head, seen: &Token) -> Pen
     requires { (word.now.tracked ≡ true) × (seen.now.book ≡ word.now.book) × HasWord word.now.key seen.now.log }
     ensures { (result.book ≡ word.now.book) × (result.nib.right ≡ may_write) }

@@ -260,7 +260,8 @@ impl<J: Naming> Witnessed<J> {
         self.partition.checkpoint()
     }
 
-    /// States that what `front` has seen of the partition's history is a prefix of it. O(1).
+    /// States that the partition's entries in `front`, the events that a worker has seen, are a prefix of its
+    /// history. O(1).
     pub fn covers(&mut self, front: &Front<J>)
         ensures same { self.new ≡ self.old }
         ensures begins { IsPrefix (history_of (J.owner self.old.part) front.now) (history_of (J.owner self.old.part)
@@ -282,7 +283,7 @@ pub(crate) fn count_at(counts: &[u64], place: u32) -> Option<u64>
     }
 }
 
-/// Whether this is the count at an index.
+/// Whether `count` is the count at an index.
 fn is_at(counts: &[u64], place: u32, count: u64) -> bool
     ensures { IsTrue result ↔ ((place < length counts.now) × (slice_index_or counts.now place 0 ≡ count)) }
 {

@@ -22,10 +22,10 @@ use crack_row::{Command, Policy, Refusal, Reply};
 use std::alloc::{AllocError, Global};
 use std::marker::Model;
 
-/// A worker of a table: its number, what it has seen of the book, and the number of its replies from each
-/// partition, 8 bytes each; with an audit also its receipts, 96 bytes each. Contracts see the number, the events
-/// that it has seen, those that it had seen after its last reply from each partition, the numbers of replies and the
-/// receipts.
+/// A worker of a table: its number, the events of the table's book that it has seen, and the number of its replies
+/// from each partition, 8 bytes each; with an audit also its receipts, 96 bytes each. Contracts see the number, the
+/// events that it has seen, those that it had seen after its last reply from each partition, the numbers of replies
+/// and the receipts.
 pub struct Worker<J: Naming> {
     number: u32,
     front: Front<J>,
@@ -134,7 +134,7 @@ impl<J: Naming> Worker<J> {
         reserve(&mut self.receipts)
     }
 
-    /// What the worker has seen of the book.
+    /// The events of the table's book that the worker has seen.
     pub fn front(&self) -> &Front<J>
         ensures { result.now ≡ self.now.seen }
     {
@@ -255,7 +255,8 @@ impl<J: Naming> Worker<J> {
         count_at(self.counts.as_slice(), part).unwrap_or(0)
     }
 
-    /// The same for a partition that covers what the worker has seen.
+    /// Whether the worker received as many replies from a partition as its history has entries of the worker. What
+    /// the worker has seen of that history must be a prefix of it. O(1).
     fn counts_agree(&self, witnessed: &Witnessed<J>) -> bool
         requires covered { IsPrefix (history_of (J.owner witnessed.now.part) self.now.seen)
             (history_of (J.owner witnessed.now.part) witnessed.now.log) }

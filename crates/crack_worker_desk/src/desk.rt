@@ -12,8 +12,8 @@ use crack_table::{Gate, Table};
 use crack_witness::{Naming, Worker};
 use std::sync::Wait;
 
-/// A `Desk` at which a worker asks its table, with a gate. Each call may wait for the lock of the partition that it
-/// asks.
+/// The `Desk` of a worker: each command of a session is the worker's command to its table, once the gate consents.
+/// Each call may wait for the lock of the partition that it asks.
 #[derive(Drop)]
 pub struct WorkerDesk<'a, R: Wait, G: Gate, J: Naming> {
     rt: &'a R,

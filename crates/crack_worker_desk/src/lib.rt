@@ -1,4 +1,4 @@
-//! Sessions over a table: its workers as desks.
+//! Sessions over a table that threads share: its workers are desks, which execute the commands of sessions.
 #![tactic(auto)]
 
 pub mod desk;

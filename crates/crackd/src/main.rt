@@ -124,7 +124,7 @@ fn serve_port<H: Threads + Wait + Net<Listener = TcpListener, Stream = TcpStream
     serve_named::<Brand, H>(handle, rt, service, table)
 }
 
-/// Lets the workers of a table serve connections, once the table's book has its name `J`.
+/// Names the table's book `J`, opens the table, and lets its workers serve connections.
 fn serve_named<
     J: Naming + Send + Sync,
     H: Threads + Wait + Net<Listener = TcpListener, Stream = TcpStream> + Sync,

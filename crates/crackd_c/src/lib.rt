@@ -1,4 +1,7 @@
-//! The C interface of a table with one thread: one call at a time on a handle.
+//! The C interface of a table with one thread: one call at a time on a handle. Each call returns a status:
+//! `ANSWERED`, the number of its refusal, or a number above 100 (see `status`) if the call wasn't made. What it
+//! writes through references is written only if the status is `ANSWERED`, except that a call with lists has also
+//! written the results before a refusal, and how many these are.
 #![tactic(auto)]
 
 ghost use Rattle.std.specs.Prelude.{◌≡◌, true, false, MatchOption, length, [], ◌∷◌};

@@ -1,11 +1,11 @@
-//! The fields of a `Box`, visible to the parent module.
+//! A box taken apart, with fields that the parent module can read.
 ghost use Rattle.std.specs.Prelude.{◌≡◌};
 ghost use Rattle.std.specs.Box.Ownership.{box_owns};
 
 use std::alloc::Allocator;
 use std::marker::Model;
 
-/// The fields of a box.
+/// The fields of a `Box`: its pointer, which it owns, its allocator and, in proofs, its value.
 pub struct Parts<T, A: Allocator> {
     pub(super) ptr: *mut T,
     pub(super) alloc: A,

@@ -20,10 +20,10 @@ const NEAR: u32 = 3;
 /// The range of a query is narrower than this, unless it is of all keys.
 const WIDEST: u32 = 64;
 
-/// The row of a deletion or an update is fewer than this many serials back.
+/// A deletion or an update takes one of this many serials, up to that of the last row that the worker inserted.
 const BACK: u32 = 64;
 
-/// A question to a partition.
+/// What a worker asks a partition for.
 #[derive(Clone, Copy)]
 pub enum Asked {
     /// To answer a command.

@@ -1,4 +1,5 @@
-//! A gate under the locks that yields and refuses now and then, and makes threads begin together.
+//! A gate, which is called under the locks: it yields to other threads and refuses now and then. It also makes the
+//! threads of a run begin together.
 
 use crate::histories::draws::PARTS;
 use crack_table::Gate;
@@ -8,14 +9,15 @@ use std::thread;
 /// One in this many commands of each partition is refused.
 const REFUSED: u32 = 50;
 
-/// One in this many commands of each partition yields to other threads under its lock, and goes on at the second
-/// turn.
+/// At one in this many commands of each partition the gate refuses once and yields to other threads, under the
+/// partition's lock; it consents when it is called again.
 const GIVES_WAY: u32 = 3;
 
 /// How often a thread that waits for the others to begin yields, at most.
 const PATIENCE: u32 = 100000;
 
-/// A gate that numbers the commands of each partition, and by this number yields, or refuses at every turn.
+/// A gate that numbers the commands of each partition. By this number it consents at once, or yields to other threads
+/// first (one in `GIVES_WAY`), or refuses at every call, so that the command is refused (one in `REFUSED`).
 #[derive(Drop)]
 pub struct Restless {
     /// How many threads have begun.

@@ -27,7 +27,7 @@ pub struct Plan {
     pub limits: Limits,
 }
 
-/// A worker at the table, and its questions.
+/// A worker of the table, and its questions.
 type Asking<'a, R, J> = Hand<Seated<'a, R, Restless, J>, Recorder<'a>>;
 
 /// Has the workers ask a table with an audit, and writes their replies and the histories.
@@ -45,7 +45,7 @@ pub fn carry_out<R: Host, W: Write>(
     carry_out_named::<Brand, R, W>(rt, plan, table, writer)
 }
 
-/// The same, when the table's book has its name.
+/// Names the table's book `J`, opens the table, and carries out the plan. Refused as `carry_out` is.
 fn carry_out_named<J: Naming + Send + Sync, R: Host, W: Write>(
     rt: &R,
     plan: Plan,

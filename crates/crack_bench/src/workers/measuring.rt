@@ -16,10 +16,10 @@ const APART: u32 = 50000000;
 /// The policy of each command.
 pub const POLICY: Policy = Policy::Gradual;
 
-/// Which partitions each worker asks.
+/// Which partitions each worker sends commands to.
 #[derive(Clone, Copy)]
 pub enum Sharing {
-    /// Partitions that no other worker asks.
+    /// Partitions to which no other worker sends commands.
     Own,
     /// All partitions.
     Shared,
@@ -30,7 +30,7 @@ pub enum Sharing {
 pub enum Work {
     /// Counts all rows, and then each worker takes steps on its own thread.
     Threads { steps: u32 },
-    /// The same, by the first worker alone.
+    /// Counts all rows, and then the first worker alone takes steps.
     Alone { steps: u32 },
     /// A checkpoint of each partition.
     Checkpoint,
@@ -117,7 +117,7 @@ fn carry_out<J: Naming + Send + Sync, R: Host + Sync>(
     }
 }
 
-/// Seats the workers at the table, each with its commands.
+/// Adds each worker to `hands`, with the table, the gate and its commands.
 fn seat<'a, J: Naming, R: Host + Sync>(
     rt: &'a R,
     gate: &'a OpenGate,

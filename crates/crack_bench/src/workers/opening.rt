@@ -22,7 +22,7 @@ pub fn run<R: Host>(rt: &R, is_audited: bool, run: Run) -> Outcome {
     }
 }
 
-/// The same, when the table's book has its name.
+/// Names the table's book `J`, opens the table, and carries out the run.
 fn run_named<J: Naming + Send + Sync, R: Host>(rt: &R, table: UnnamedTable, run: Run) -> Outcome
     requires { AreNames J.book J.owner table.opened }
 {
