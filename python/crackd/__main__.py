@@ -70,6 +70,7 @@ def handed(words: list[str]) -> int:
 
 
 def main(words: list[str]) -> int:
+    """Runs the command that the words name, or prints the help. Returns the exit status."""
     if words[:1] in (["--version"], ["-V"]):
         print(f"crackd {__version__}")
         return 0

@@ -204,6 +204,7 @@ class Shared(RemoteTable):
         return answer
 
     def close(self) -> Any:
+        """Closes the connection. Returns an awaitable that waits until it is closed."""
         return self.line.close()
 
 

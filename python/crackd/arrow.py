@@ -129,6 +129,7 @@ class Column:
             raise TypeError(f"column {self.name!r} has the Arrow type {form!r}, which is no number and no date")
 
     def empty(self) -> Any:
+        """An array of this type without items."""
         return self.typed(np.empty(0, self.dtype))
 
     def typed(self, items: Any) -> Any:
@@ -161,6 +162,7 @@ class Column:
 
 
 def text_of(text: Optional[bytes]) -> str:
+    """A text of the C interface, which may be a null pointer."""
     return (text or b"").decode("utf-8")
 
 

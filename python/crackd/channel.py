@@ -32,6 +32,7 @@ class Lines:
         self._begin = self.feeds = 0
 
     def add(self, given: bytes) -> None:
+        """Adds bytes that have arrived."""
         self._parts.append(given)
         self.feeds += given.count(b"\n")
 
@@ -143,4 +144,5 @@ class Channel:
         return self.lines(self._given.feeds)
 
     def close(self) -> None:
+        """Closes the socket."""
         self.socket.close()

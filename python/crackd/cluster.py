@@ -429,6 +429,7 @@ def ends_text(keys: Keys, low: int, high: int) -> str:
 
 
 def write_synced(path: pathlib.Path, text: str) -> None:
+    """Writes an ASCII text to a file, and waits until it is on disk."""
     with open(path, "w", encoding="ascii") as file:
         file.write(text)
         file.flush()

@@ -165,6 +165,7 @@ def dates_of_numpy(fields: list[str], form: str) -> Sequence[Any]:
 
 
 def quoted(field: str) -> str:
+    """A field as an error shows it: in quotes, and cut if it is long."""
     return repr(shown(field))
 
 

@@ -54,6 +54,7 @@ def document(title: str, height: int, style: str, parts: Iterable[str]) -> str:
 
 
 def words(x: float, y: float, text: str, anchor: str = "start", kind: str = "text") -> str:
+    """A text of an image at a place, with its anchor (start, middle or end) and its CSS class."""
     return f'<text class="{kind}" x="{x:.1f}" y="{y:.1f}" text-anchor="{anchor}">{html.escape(text)}</text>'
 
 

@@ -72,6 +72,7 @@ class Keys:
 
     @staticmethod
     def of_dtype(dtype: Any) -> "Keys":
+        """The keys for items of a numpy type. Raises TypeError if there are none."""
         found = type_of_numpy(dtype)
         if found.kind not in "uifM" or found.itemsize > 8:
             raise TypeError(f"keys of {dtype} are not supported")

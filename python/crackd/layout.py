@@ -25,6 +25,7 @@ UNSIGNED = Keys("u")
 
 
 def rows_text(count: int) -> str:
+    """A number of rows, in words."""
     return "1 row" if count == 1 else f"{count} rows"
 
 
@@ -153,6 +154,7 @@ class Layout:
 
     @property
     def rows(self) -> int:
+        """The number of rows of all partitions."""
         return sum(it.rows for it in self.parts)
 
     def __str__(self) -> str:

@@ -138,6 +138,7 @@ class LocalShard:
             raise Closed("the table is closed") if code == CLOSED else refused(code, done)
 
     def check_open(self) -> None:
+        """Raises `Closed` if the table is closed."""
         with self._lock:
             if not self._handle.is_open:
                 raise Closed("the table is closed")
@@ -153,6 +154,7 @@ class LocalShard:
     # call here. So the methods below update their counts in a `finally` block, from what the library has written.
 
     def insert(self, key: int, payload: int) -> int:
+        """Inserts a row. Returns its number in the shard. Raises `Refused` if the library refuses it."""
         part, serial = c_uint32(NOWHERE), c_uint64()
         if self._asking is not None:
             self._give_way()
@@ -188,6 +190,7 @@ class LocalShard:
             self._check(code)
 
     def delete(self, row: int) -> bool:
+        """Deletes a row. Returns whether it existed."""
         gone = c_uint8()
         if self._asking is not None:
             self._give_way()
@@ -233,6 +236,7 @@ class LocalShard:
         return self._lock
 
     def update(self, row: int, key: int, payload: int) -> bool:
+        """Replaces the key and the payload of a row. Returns whether the row exists."""
         found = c_uint8()
         if self._asking is not None:
             self._give_way()
@@ -250,6 +254,7 @@ class LocalShard:
         return found.value == 1
 
     def insert_many(self, keys: Any, payloads: Any) -> Any:
+        """Inserts rows. Returns their numbers. An error has as `answers` those of the rows inserted before it."""
         placed = Placed(len(keys))
         try:
             return self.place_many(keys, payloads, placed)
@@ -301,6 +306,7 @@ class LocalShard:
         self._check(refusals.get(first, 0), placed.done.value)
 
     def delete_many(self, rows: Any) -> Any:
+        """Deletes rows in order. Returns 1 for each that existed and 0 for each that didn't."""
         (parts, serials), found, done = _parted(rows), empty("B", len(rows)), c_uint64()
         with self._lock:
             try:
@@ -316,6 +322,7 @@ class LocalShard:
         return found
 
     def update_many(self, rows: Any, keys: Any, payloads: Any) -> Any:
+        """Replaces keys and payloads of rows, in order. Returns 1 for each row that exists, 0 for each other."""
         (parts, serials), found, done = _parted(rows), empty("B", len(rows)), c_uint64()
         with self._lock:
             try:
@@ -326,6 +333,7 @@ class LocalShard:
         return found
 
     def count(self, first: int, last: int) -> int:
+        """Counts the rows whose keys have numbers from `first` to `last`, both included."""
         count = c_uint64()
         if self._asking is not None:
             self._give_way()
@@ -343,6 +351,7 @@ class LocalShard:
         return count.value
 
     def sum(self, first: int, last: int) -> int:
+        """Sums the payloads of the rows whose keys have numbers from `first` to `last`, both included."""
         low, high = c_uint64(), c_int64()
         if self._asking is not None:
             self._give_way()
@@ -360,10 +369,12 @@ class LocalShard:
         return low.value + (high.value << 64)
 
     def count_many(self, firsts: Any, lasts: Any) -> Any:
+        """Counts the rows of each range, as `count` does."""
         counts = self._ask_many(self._library.count_many, firsts, lasts, "Q")[0]
         return counts.view(np.int64) if np is not None else counts
 
     def sum_many(self, firsts: Any, lasts: Any) -> list[int]:
+        """Sums the payloads of each range, as `sum` does."""
         lows, highs = self._ask_many(self._library.sum_many, firsts, lasts, "Qq")
         return [low + (high << 64) for low, high in zip(plain(lows), plain(highs))]
 
@@ -381,6 +392,7 @@ class LocalShard:
         return answers if whole is None else [_spread(code, it, whole, size) for code, it in zip(codes, answers)]
 
     def select(self, first: int, last: int) -> tuple[Any, Any, Any]:
+        """Lists the rows whose keys are `first` to `last`, both included: row numbers, numbers of keys, payloads."""
         found = c_uint64()
         with self._lock:
             room = self.count(first, last)
@@ -397,6 +409,7 @@ class LocalShard:
         return joined(lists[0], lists[1], empty("Q", room), room), lists[2], lists[3]
 
     def settle(self) -> None:
+        """Merges all pending rows."""
         count = c_uint64()
         with self._lock:
             self._check(self._library.long_count(self._ref, POLICIES.index("complete"), 0, TOP - 1, byref(count)))
@@ -404,6 +417,7 @@ class LocalShard:
             self._until_look = 0
 
     def checkpoint(self) -> int:
+        """Makes a checkpoint of each partition. Returns how many commands they accepted since their last ones."""
         with self._lock:
             return self._fold()
 
@@ -415,6 +429,7 @@ class LocalShard:
         return folded
 
     def rows(self) -> int:
+        """The number of rows."""
         return sum(it.rows for it in self._totals())
 
     def memory(self) -> int:
@@ -431,6 +446,7 @@ class LocalShard:
         return found
 
     def layouts(self) -> list[PartLayout]:
+        """The layout of each partition, in order."""
         with self._lock:
             return [self._layout(part) for part in range(self.partitions)]
 

@@ -160,6 +160,7 @@ def style() -> str:
 
 
 def box(x: float, y: float, width: float, height: float, kind: str, title: str = "") -> str:
+    """A rectangle of an image, with its CSS class, and a title that viewers show under the pointer."""
     said = f"<title>{html.escape(title)}</title>" if title else ""
     where = f'x="{x:.1f}" y="{y:.1f}" width="{max(width, 0):.1f}" height="{height:.1f}"'
     return f'<rect class="{kind}" {where}>{said}</rect>'

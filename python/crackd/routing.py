@@ -48,6 +48,7 @@ class Cut(NamedTuple):
         return len(self.columns[0] if self.places is None else self.places)
 
     def words(self) -> tuple[Any, ...]:
+        """The arguments of the call for this shard's items."""
         return self.columns if self.places is None else (*(it[self.places] for it in self.columns), *self.further)
 
 

@@ -79,6 +79,7 @@ def _report_unproved() -> None:
 
 
 def free_port() -> int:
+    """A port of 127.0.0.1 that no process listens on now. Another one may take it before it is used."""
     with socket.socket() as it:
         it.bind(("127.0.0.1", 0))
         return int(it.getsockname()[1])

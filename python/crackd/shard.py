@@ -191,6 +191,7 @@ def rows_of_file(path: str, count: int, kind: Keys) -> Any:
 
 
 def sample_of_file(path: str, count: int, kind: Keys) -> tuple[int, Any]:
+    """The number of rows of a file, and a sample of the numbers of its keys."""
     keys = rows_of_file(path, count, kind)["key"]
     return count, kind.many(sample_of(keys)[1])
 
@@ -218,6 +219,7 @@ def column_of(block: Any, column: Any) -> Any:
 
 
 def sample_of_block(block: Any, key: Any, kind: Keys) -> tuple[int, Any]:
+    """The number of rows of a Dask block, and a sample of the numbers of its keys."""
     return sample_of(kind.many(column_of(block, key)))
 
 

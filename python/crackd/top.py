@@ -83,6 +83,7 @@ def rate(now: Numbers, before: Optional[Numbers], lists: Callable[[Numbers], lis
 
 
 def words_of(numbers: dict[str, int]) -> list[str]:
+    """The numbers of the columns as words."""
     return [str(numbers[it]) for it in COLUMNS]
 
 
@@ -95,6 +96,7 @@ def lines_of(now: Numbers, before: Optional[Numbers]) -> Iterator[list[str]]:
 
 
 def time_text(seconds: int) -> str:
+    """A time as days, hours, minutes and seconds."""
     days, rest = divmod(seconds, 86400)
     clock = f"{rest // 3600}:{rest // 60 % 60:02}:{rest % 60:02}"
     return f"{days} d {clock}" if days else clock
@@ -205,6 +207,7 @@ def answer(host: str, port: int, metrics_port: int) -> int:
 
 
 def main(words: list[str]) -> int:
+    """Shows the numbers of a server as the options in these words say. Returns the exit status."""
     about = "Shows the numbers of a server, a line for each partition, anew each second, until control-C."
     parser = argparse.ArgumentParser(prog=f"{called()} top", description=about)
     parser.add_argument("--host", default="127.0.0.1", help="where the server listens [default: 127.0.0.1]")

@@ -141,6 +141,7 @@ def ping() -> Exchanges:
 
 
 def insert(key: int, payload: int) -> Exchanges:
+    """Inserts a row. Returns its number."""
     rows = yield from insert_many(from_ints("Q", [key], "keys"), from_ints("q", [payload], "payloads"))
     return int(rows[0])
 
@@ -164,42 +165,51 @@ def take(row: int) -> Exchanges:
 
 
 def delete_many(rows: Any) -> Exchanges:
+    """Deletes rows in order. Returns 1 for each that existed and 0 for each that didn't."""
     said = yield from asked("delete %d.%d\n", *numbers_of(rows))
     return from_ints("B", [line[:1] == b"g" for line in said.splitlines()], "flags")
 
 
 def update_many(rows: Any, keys: Any, payloads: Any) -> Exchanges:
+    """Replaces keys and payloads of rows, in order. Returns 1 for each row that exists, 0 for each other."""
     said = yield from asked("update %d.%d %d %d\n", *numbers_of(rows), keys, payloads)
     return from_ints("B", [line[:1] == b"c" for line in said.splitlines()], "flags")
 
 
 def delete(row: int) -> Exchanges:
+    """Deletes a row. Returns whether it existed."""
     return bool((yield from delete_many([row]))[0])
 
 
 def update(row: int, key: int, payload: int) -> Exchanges:
+    """Replaces the key and the payload of a row. Returns whether the row exists."""
     return bool((yield from update_many([row], [key], [payload]))[0])
 
 
 def count(first: int, last: int) -> Exchanges:
+    """Counts the rows whose keys have numbers from `first` to `last`, both included."""
     return int((yield from asked("count %d %d\n", [first], [last + 1]))[6:])
 
 
 def count_many(firsts: Any, lasts: Any) -> Exchanges:
+    """Counts the rows of each range, as `count` does."""
     said = yield from asked("count %d %d\n", firsts, [it + 1 for it in plain(lasts)])
     return parsed("q", said.replace(b"count ", b""))
 
 
 def sum_of(first: int, last: int) -> Exchanges:
+    """Sums the payloads of the rows whose keys have numbers from `first` to `last`, both included."""
     return int((yield from asked("sum %d %d\n", [first], [last + 1]))[4:])
 
 
 def sum_many(firsts: Any, lasts: Any) -> Exchanges:
+    """Sums the payloads of each range, as `sum_of` does."""
     said = yield from asked("sum %d %d\n", firsts, [it + 1 for it in plain(lasts)])
     return [int(line[4:]) for line in said.splitlines()]
 
 
 def select(first: int, last: int) -> Exchanges:
+    """Lists the rows whose keys are `first` to `last`, both included: row numbers, numbers of keys, payloads."""
     said = yield from answered(b"select %d %d\n" % (first, last + 1), 1)
     words = said.partition(b"\n")[2].replace(b".", b" ").split()
     numbers, keys, payloads = (parsed("Q", b" ".join(words[at::4])) for at in (0, 1)), words[2::4], words[3::4]
@@ -207,10 +217,12 @@ def select(first: int, last: int) -> Exchanges:
 
 
 def settle(policy: str) -> Exchanges:
+    """Merges all pending rows, and sets the policy of the session again."""
     yield from answered(b"policy complete\ncount 0 %d\npolicy %b\n" % (TOP, policy.encode("ascii")), 3)
 
 
 def checkpoint() -> Exchanges:
+    """Makes a checkpoint of each partition. Returns how many commands they accepted since their last ones."""
     entries, code = folded((yield CHECKPOINTS, MOST_PARTS).splitlines())
     if code:
         raise refused(code)

@@ -20,11 +20,13 @@ class Interrupts:
         signal.signal(signal.SIGINT, self.note)
 
     def note(self, *_: Any) -> None:
+        """Handles the signal of a control-C: notes it, and raises KeyboardInterrupt if one was noted before."""
         self.noted += 1
         if self.noted > 1:
             raise KeyboardInterrupt
 
     def forget(self) -> None:
+        """Forgets a control-C that was noted."""
         self.noted, self.is_told = 0, False
 
     def check(self, left_undone: str) -> None:

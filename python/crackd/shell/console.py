@@ -68,12 +68,14 @@ class Progress:
         self.is_shown, self.width, self.next = is_shown, 0, time.monotonic() + SECONDS_OF_A_PROGRESS
 
     def show(self, text: str) -> None:
+        """Shows a text in place of the last one, unless that one was shown a moment ago."""
         if self.is_shown and time.monotonic() >= self.next:
             self.next = time.monotonic() + SECONDS_OF_A_PROGRESS
             self.width = max(self.width, len(text))
             print(f"\r{text:<{self.width}}", end="", flush=True)
 
     def clear(self) -> None:
+        """Erases the line."""
         if self.width:
             print(f"\r{'':<{self.width}}\r", end="", flush=True)
 
@@ -141,10 +143,12 @@ class Shell:
             self.fail(fault)
 
     def fail(self, text: Union[str, Fault]) -> None:
+        """Writes a fault to standard error, and counts it."""
         self.faults += 1
         complain(text)
 
     def statement(self, statement: bytes) -> None:
+        """Sends a statement, counts it and a refusal, and shows the reply unless a control-C was noted."""
         # a line that looks like HTTP isn't sent, since the server would close the connection
         is_http = HTTP.match(statement[:MOST_LINE_BYTES])
         reply = Reply(["refused 1"], 0.0) if is_http else self.session.ask(with_ends(statement))
@@ -276,6 +280,7 @@ class Shell:
         self.bails = word == "on"
 
     def help(self, _: str = "") -> None:
+        """Prints the help."""
         print(HELP)
 
     def quit(self, _: str = "") -> None:
@@ -413,6 +418,7 @@ def options_of(words: list[str]) -> Any:
 
 
 def main(words: list[str]) -> int:
+    """Runs a shell with the options in these words. Returns the exit status."""
     options, interrupts = options_of(words), Interrupts()
     if isinstance(sys.stdout, io.TextIOWrapper):
         sys.stdout.reconfigure(errors="backslashreplace")

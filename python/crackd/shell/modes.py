@@ -12,6 +12,7 @@ NUMBER = ("name", "number")
 
 
 def is_list_of_rows(lines: Sequence[str]) -> bool:
+    """Whether a reply is a list of rows."""
     return lines[0].startswith("rows ")
 
 

@@ -37,14 +37,17 @@ class Reply:
 
     @property
     def is_refusal(self) -> bool:
+        """Whether the server refused the statement."""
         return self.lines[0].startswith("refused")
 
 
 def is_key(text: str) -> bool:
+    """Whether a text is a key in the range of keys."""
     return KEY.fullmatch(text) is not None and int(text) <= GREATEST_KEY
 
 
 def is_payload(text: str) -> bool:
+    """Whether a text is a payload in the range of payloads."""
     return PAYLOAD.fullmatch(text) is not None and LEAST_PAYLOAD <= int(text) <= GREATEST_PAYLOAD
 
 
@@ -114,6 +117,7 @@ class Loaded:
     before: int = 0
 
     def take(self, lines: Sequence[str]) -> None:
+        """Counts the replies to inserts, and keeps the first refusal."""
         for line in lines:
             if line.startswith("row "):
                 self.placed += 1

@@ -98,4 +98,5 @@ def fault_text(path: Any, error: Any) -> str:
 
 
 def time_text(seconds: float) -> str:
+    """A time in parentheses, in seconds or milliseconds."""
     return f"({seconds:.2f} s)" if seconds >= 1 else f"({seconds * 1000:.3f} ms)"
