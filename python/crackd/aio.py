@@ -248,6 +248,8 @@ class AsyncTable:
         numbers: dict[str, int] = await _awaited(self._table.stats(part))
         return numbers
 
+    # The methods from here on have the docstrings of the synchronous methods, which the end of this file gives them.
+
     async def insert(self, key: Any, payload: int) -> int:
         return await _awaited(self._table.insert(key, payload))
 

@@ -78,7 +78,7 @@ class Shard:
             raise ShardFailed(f"{type(error).__name__}: {error}") from error
 
     def begin(self) -> int:
-        """The number of partitions of the shard."""
+        """Opens nothing: answers with the number of partitions, and so shows that the shard is there."""
         return self.rows.partitions
 
     def load(self, token: str, number: int, keys: Any, payloads: Any) -> None:

@@ -183,7 +183,7 @@ class Table(TableHere, Sharded):
         """How queries merge pending rows."""
         return self._policy
 
-    # Inserting rows
+    # Inserting rows. `insert_many`, `insert_rows` and `move` have the docstrings of `Sharded`, given after the class.
 
     @telling
     def insert_many(self, placed: list[Any], keys: Any, payloads: Any) -> RowNumbers:

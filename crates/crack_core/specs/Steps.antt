@@ -20,20 +20,21 @@ use Rattle.crack_part.specs.Refusals.{stopped_by, first_cause}
 use Rattle.crack_part.specs.Upkeep.{is_automatic, is_due}
 use Rattle.crack_core.specs.Routes.{keys_of_part}
 
--- the bounds of the partitions of a table: why one accepts no more commands, if it doesn't, how many cells its rows
--- may have, how many may be taken when a cell is missing, and whether a checkpoint is due before the next command
+-- what the limits of a table mean for a partition, by its plain table: why it accepts no more commands, if it
+-- doesn't; how many cells its rows may have; how many cells may be taken when none is free; and whether a checkpoint
+-- is due before the next command
 pub record Bounds : Type 0 where
   pub stop : PlainView → Option Refusal
   pub cells : ℕ
   pub taken : PlainView → ℕ
   pub due : PlainView → Bool
 
--- how many cells may be taken when one is missing: as many as rows if upkeep is automatic, else as many as commands
+-- how many cells may be taken when none is free: as many as rows if upkeep is automatic, else as many as commands
 -- accepted
 abbrev pub taken_where_full : Limits → PlainView → ℕ
 taken_where_full limits table = if is_automatic limits.upkeep then length table.state.rows else accepted_of table
 
--- the bounds of partitions with these limits
+-- what these limits mean for a partition
 abbrev pub bounds_of : Limits → Bounds
 bounds_of limits = record { stop = stopped_by limits; cells = limits.cells; taken = taken_where_full limits; due = λ table. is_due limits table.since }
 
@@ -50,7 +51,7 @@ abbrev pub expected : Bounds → Range → Option PlainView → Command → Resu
 expected bounds keys None command = Err NoSuchPartition
 expected bounds keys (Some table) command = unless (first_cause keys (bounds.stop table) false command) (reply_to table.state command)
 
--- a partition may lack a cell for a command with a key if as many may be taken as its rows may have
+-- a partition may refuse a command with a key for lack of a cell, if as many cells may be taken as its rows may have
 abbrev pub MayLackCell : Bounds → Option PlainView → Command → Type 0
 MayLackCell bounds table command = IsSomeAnd table (λ (t : PlainView). (is_some (key_of command) ≡ true) × (bounds.cells ≤ bounds.taken t))
 

@@ -27,7 +27,8 @@ with_folds limits part (job ∷ jobs) (result ∷ results) table =
     (if is_kept_up limits part job result table then Fold part ∷ job ∷ [] else job ∷ []) ++ with_folds limits part jobs results (after_job limits part job result table)
 with_folds limits part _ _ table = []
 
--- the outcomes of the jobs that `with_folds` gives
+-- the outcomes of the jobs that `with_folds` gives: those of these jobs, and before a job that of its inserted
+-- checkpoint
 abbrev pub with_folded : Limits → ℕ → List Job → List (Result Done Refusal) → PlainView → List (Result Done Refusal)
 with_folded limits part (job ∷ jobs) (result ∷ results) table =
     (if is_kept_up limits part job result table then Ok (Folded table.since) ∷ result ∷ [] else result ∷ []) ++ with_folded limits part jobs results (after_job limits part job result table)

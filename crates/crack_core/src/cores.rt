@@ -141,8 +141,8 @@ impl Core {
         }
     }
 
-    /// The numbers of one partition, for monitoring. Cracks and merges nothing, and isn't counted as a command.
-    /// Refused with `NoSuchPartition` if there is none. O(1).
+    /// The statistics of one partition, for monitoring: how many rows, cells and commands it has. Cracks and merges
+    /// nothing, and isn't counted as a command. Refused with `NoSuchPartition` if there is none. O(1).
     pub fn statistics(&self, part: u32) -> Result<Statistics, Refusal>
         ensures outcome { IsStatisticsOutcome (slice_get (tables_of self.now.parts) part) result }
         ensures expected { result ≡ expected_statistics (slice_get self.now.parts part) }

@@ -189,7 +189,8 @@ fn fed_by(bytes: &[u8]) -> &[u8]
     if bytes.is_empty() { b"\n" } else { bytes }
 }
 
-/// How the session ended, if it did, when it stopped for this reason after a read of these bytes.
+/// How a session ended that stopped for this reason after it was fed these bytes of a read, none at the end of the
+/// input. `None` if it goes on.
 fn how_after(why: Why, bytes: &[u8]) -> Option<How>
     ensures { (left : ℕ) → (s : SessionState) → StoppedFor why left [] s → StopsAs result bytes.now left s }
 {

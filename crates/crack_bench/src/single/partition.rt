@@ -182,7 +182,7 @@ impl Measured {
         self.apply(command)
     }
 
-    /// Asks this many times.
+    /// Asks question 0, question 1 .. of a series, `times` in number.
     pub fn repeat(&mut self, ask: Ask, times: u32) -> Result<(), Refusal> {
         'times: for at in 0..times {
             self.ask(ask, at)?;

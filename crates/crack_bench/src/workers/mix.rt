@@ -112,7 +112,7 @@ impl Mix {
         Ok(at)
     }
 
-    /// Inserts this many rows.
+    /// Inserts this many rows with random keys into random ones of the partitions.
     pub fn load<A: Asks>(&mut self, asked: &mut A, rows: u32) -> Result<(), Refusal> {
         'rows: for _ in 0..rows {
             let placed = self.insert(asked)?;
