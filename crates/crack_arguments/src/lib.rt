@@ -18,7 +18,7 @@ const WORDS: &str = "--words";
 /// The request of a command line.
 #[derive(Drop)]
 pub enum Request {
-    /// Print the help or the version.
+    /// Print this text: the help or the version.
     Help(String),
     /// Answer the statements of standard input over a new table.
     Script(Opening),
@@ -99,7 +99,7 @@ impl From<AllocError> for ArgumentsError {
 
 /// The value of an option.
 enum Value {
-    /// The option has none.
+    /// The option has no value.
     Flag,
     /// A number, which the help calls by this word.
     Number(&'static str),
@@ -226,7 +226,7 @@ fn number_option<'a>(option: Arg<'a>, word: &'a str) -> Arg<'a> {
 /// A command that is built, or the error that no memory was found for it.
 type Built<'a> = Result<Command<'a>, AllocError>;
 
-/// Adds an option to a command.
+/// Adds an option to a command that is being built.
 fn with_option<'a>(built: Built<'a>, option: Arg<'a>) -> Built<'a> {
     match built {
         Ok(command) => command.arg(option),
@@ -237,7 +237,7 @@ fn with_option<'a>(built: Built<'a>, option: Arg<'a>) -> Built<'a> {
     }
 }
 
-/// Adds options to a command.
+/// Adds these options to a command that is being built.
 fn with_options<'a>(alloc: Global, built: Built<'a>, choices: &[Choice]) -> Built<'a> {
     let mut built = built;
     'choices: for choice in choices {
@@ -246,7 +246,7 @@ fn with_options<'a>(alloc: Global, built: Built<'a>, choices: &[Choice]) -> Buil
     built
 }
 
-/// Adds a subcommand to a command.
+/// Adds a subcommand to a command that is being built.
 fn with_subcommand<'a>(built: Built<'a>, subcommand: Built<'a>) -> Built<'a> {
     match built {
         Ok(command) => joined(command, subcommand),
@@ -331,7 +331,7 @@ fn csv_command<'a>(alloc: Global) -> Built<'a> {
     )
 }
 
-/// The program's command without its subcommands.
+/// The program's own command for the parser, without its subcommands.
 fn program<'a>(alloc: Global) -> Built<'a> {
     Command::new(alloc, "crackd")
         .about("An in-memory table that sorts itself as it is queried")
@@ -341,7 +341,7 @@ fn program<'a>(alloc: Global) -> Built<'a> {
         .arg(option_of(alloc, &WORDS_CHOICE).global(true))
 }
 
-/// The program's command with its subcommands.
+/// The program's own command for the parser, with its subcommands.
 fn command_line<'a>(alloc: Global) -> Built<'a> {
     let with_script = with_subcommand(program(alloc), script_command(alloc));
     let with_batch = with_subcommand(with_script, batch_command(alloc));
@@ -402,7 +402,7 @@ fn opening_of(alloc: Global, matches: &ArgMatches<'_>) -> Result<Opening, Argume
     })
 }
 
-/// The number of a required option.
+/// The number of a required option. An error if it is missing or no number of 64 bits.
 fn number_of(matches: &ArgMatches<'_>, name: &str) -> Result<u64, ArgumentsError> {
     matches.get_one::<u64>(name).ok_or(ArgumentsError::Bad)
 }

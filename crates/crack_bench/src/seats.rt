@@ -10,6 +10,7 @@ use std::{mem, thread};
 
 /// What answers commands: a worker of a table, or partitions that are asked directly.
 pub trait Asks {
+    /// Executes a command on one partition. Refused with `NoSuchPartition` if there is no such partition.
     fn ask(&mut self, part: u32, command: Command) -> Result<Reply, Refusal>;
 }
 
@@ -59,7 +60,7 @@ impl<'a, R: Wait, G: Gate, J: Naming> Works for Seated<'a, R, G, J> {
     }
 }
 
-/// A worker and its questions.
+/// A worker, and where its questions come from.
 #[derive(Drop)]
 pub struct Hand<A, Q> {
     pub worker: A,

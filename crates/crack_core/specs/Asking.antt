@@ -92,13 +92,13 @@ pub record ReadsParts {X : Type 0} (limits : Limits) (splits : List Bound) (poli
   pub ok : IfOk result (λ x. (said : List PartReply) × AsksInTurn limits splits policy question old (parts_of splits range) (Ok said) new × comes_to said x)
   pub err : IfErr result (λ e. AsksInTurn limits splits policy question old (parts_of splits range) (Err e) new ⊎ ((e ≡ OutOfMemory) × (new ≡ old)))
 
--- how many rows a reply counts or lists; 0 for any other reply
+-- how many rows the reply to a count or a select has; 0 for any other reply
 abbrev pub counted : Reply → ℕ
 counted (Counted count) = count
 counted (Rows rows) = length rows
 counted _ = 0
 
--- the sum in a reply; 0 for any other reply
+-- the sum in the reply to a sum; 0 for any other reply
 abbrev pub summed : Reply → ℤ
 summed (Summed sum) = sum
 summed _ = pos 0

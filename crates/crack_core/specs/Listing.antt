@@ -16,7 +16,7 @@ use Rattle.crack_core.specs.Bulk.{key_in, payload_in}
 use Rattle.crack_core.specs.declared.turns.PartReply.{PartReply}
 use Rattle.crack_row.specs.declared.command.Command.TheVariants.{Select}
 
--- the rows that a reply lists; none for any other reply
+-- the rows in the reply to a select; none for any other reply
 abbrev pub rows_listed : Reply → List Row
 rows_listed (Rows rows) = rows
 rows_listed _ = []

@@ -10,11 +10,11 @@ use Rattle.crack_part.specs.Parts.{Part, IsSound}
 use Rattle.crack_core.specs.declared.TheConstants.{MOST_SPLITS}
 use Rattle.crack_core.specs.Routes.{is_rising, keys_of_part}
 
--- the fault of splits, if there is one: that they don't rise as they should, or else that there are too many
+-- the fault of splits, if there is one: `BadSplits` if they don't rise as they should, or else `TooManyPartitions`
 abbrev pub splits_fault : List Bound → Option Refusal
 splits_fault splits = if is_rising 0 splits then (if nat_le (length splits) MOST_SPLITS then None else Some TooManyPartitions) else Some BadSplits
 
--- the fault of limits, if there is one
+-- the fault of limits, if there is one: `BadLimit` if a limit isn't 1 to the greatest of its kind
 abbrev pub limits_fault : Limits → Option Refusal
 limits_fault limits = if are_limits limits then None else Some BadLimit
 

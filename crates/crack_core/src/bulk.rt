@@ -43,9 +43,10 @@ impl Progress {
 /// 2^64: the value of the lowest of the bits above the low 64.
 const HIGH_UNIT: u128 = 18446744073709551616;
 
-/// 2^102, which no sum exceeds in size, and its quotient by 2^64.
+/// 2^102, which no sum exceeds in size.
 const FARTHEST: i128 = 5070602400912917605986812821504;
 
+/// 2^38: `FARTHEST` divided by 2^64.
 const FARTHEST_HIGH: i64 = 274877906944;
 
 impl Core {

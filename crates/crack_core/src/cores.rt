@@ -254,7 +254,7 @@ impl Core {
     }
 }
 
-/// Asks the partition of a step, if there is one.
+/// Asks the partition that a step names. Refused as `Core::step` is.
 #[inline(always)]
 fn ask_at(partitions: &mut [Partition], step: Step) -> Result<Reply, Refusal>
     ensures outcome { (splits : List Bound) (limits : Limits) → AreParts splits limits partitions.old →
@@ -332,7 +332,7 @@ fn fold_at(partitions: &mut [Partition], part: u32) -> Result<u64, Refusal>
     Ok(folded)
 }
 
-/// Does one job.
+/// Does one job: performs a step, or makes a checkpoint. Refused as `Core::step` and `Core::checkpoint` are.
 fn do_job(partitions: &mut [Partition], job: Job) -> Result<Done, Refusal>
     ensures outcome { (splits : List Bound) (limits : Limits) → AreParts splits limits partitions.old →
         IsJobOutcome (bounds_of limits) splits (slice_get (tables_of partitions.old)) job result }

@@ -64,7 +64,7 @@ pub fn only_part(splits: &[Bound], range: KeyRange) -> Option<u32>
     Some(first as u32)
 }
 
-/// The keys of a partition.
+/// The keys of the partition with this number: from the split before it up to, but not including, the split after it.
 pub fn keys_of_part(splits: &[Bound], part: usize) -> KeyRange
     requires splits { AreSplits splits.now }
     requires there { part ≤ length splits.now }

@@ -19,11 +19,11 @@ pub enum Job {
     Fold(u32),
 }
 
-/// The outcome of a job.
+/// What a job that wasn't refused has done.
 #[derive(Drop, Debug)]
 pub enum Done {
-    /// The reply to a step.
+    /// A step was performed, with this reply.
     Replied(Reply),
-    /// The checkpoint of this many commands.
+    /// A checkpoint was made: how many commands the partition had accepted since the one before.
     Folded(u64),
 }

@@ -35,7 +35,7 @@ pub struct PartReply {
 }
 
 impl PartReply {
-    /// How many rows the reply counts or lists, or 0 if it is another one.
+    /// How many rows the reply to a count or a select has; 0 for any other reply.
     pub(crate) fn counted(&self) -> u64
         ensures { result ≡ counted self.now.reply }
     {
@@ -46,7 +46,7 @@ impl PartReply {
         }
     }
 
-    /// The sum in the reply, or 0 if it is another one.
+    /// The sum in the reply to a sum; 0 for any other reply.
     pub(crate) fn summed(&self) -> i128
         ensures { result ≡ summed self.now.reply }
     {
@@ -132,7 +132,7 @@ pub fn rows_told(replies: &[PartReply]) -> u64
     total
 }
 
-/// The sum of the sums in replies.
+/// The sum of the sums in replies, between -2^102 and 2^102.
 pub fn sum_told(replies: &[PartReply]) -> i128
     requires small { All (λ (r : PartReply). IsSmall r.reply) replies.now }
     requires few { length replies.now ≤ 64 }

@@ -71,7 +71,7 @@ second_in (f ∷ g ∷ fields) field = g
 abbrev pub kept_of_record : Begun → KeptRecord
 kept_of_record b = record { state = b.state; whole = min 3 (length b.fields); first = take FIELD_BYTES (first_in b.fields b.field); second = take FIELD_BYTES (second_in b.fields b.field) }
 
--- the state for a place
+-- the state of the `csv` crate's reader that a place stands for
 abbrev pub reader_state : Place → State
 reader_state pl.StartRecord = st.StartRecord
 reader_state pl.StartField = st.StartField

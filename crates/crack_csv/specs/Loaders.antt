@@ -91,18 +91,20 @@ module _ {D : Type 0} (bounds : D → Bounds) (splits : D → List Bound) (table
     pub splits_are : splits now ≡ splits origin
     pub bounds_are : bounds now ≡ bounds origin
 
--- Whatever a loader took before, it goes on with these bytes.
+-- A loader that has loaded the records of some earlier bytes, whichever they are, has then loaded those of these
+-- bytes too.
 abbrev pub Takes : {D : Type 0} → (D → Bounds) → (D → List Bound) → (D → Option (List PlainView)) → (D → ℕ) → (D → Call → D → Type 0) → LoaderState → List ℕ → D → D → LoaderState → Type 0
 Takes {D} bounds splits tables accepted leads old bytes desk desk' new = (origin : D) (before : List ℕ) → HasLoaded bounds splits tables accepted leads old.policy origin before old desk → HasLoaded bounds splits tables accepted leads old.policy origin (before ++ bytes) new desk'
 
--- Whatever a loader took before, the last record that these bytes finish is refused.
+-- A loader had loaded the records of some earlier bytes, whichever they are; the last record that these bytes finish
+-- is refused.
 abbrev pub StopsBehind : {D : Type 0} → (D → Bounds) → (D → List Bound) → (D → Option (List PlainView)) → (D → ℕ) → (D → Call → D → Type 0) → LoaderState → List ℕ → D → D → LoadFault → Type 0
 StopsBehind {D} bounds splits tables accepted leads old bytes desk desk' fault = (origin : D) (before : List ℕ) → HasLoaded bounds splits tables accepted leads old.policy origin before old desk → HasStopped bounds splits tables accepted leads old.policy origin (records_in (before ++ bytes)) fault desk'
 
--- Whatever a loader took, the rows of all its records are inserted, `count` in number.
+-- A loader had taken some bytes, whichever they are; the rows of all their records are inserted, `count` in number.
 abbrev pub EndsWith : {D : Type 0} → (D → Bounds) → (D → List Bound) → (D → Option (List PlainView)) → (D → ℕ) → (D → Call → D → Type 0) → LoaderState → D → D → ℕ → Type 0
 EndsWith {D} bounds splits tables accepted leads old desk desk' count = (origin : D) (before : List ℕ) → HasLoaded bounds splits tables accepted leads old.policy origin before old desk → HasEnded bounds splits tables accepted leads old.policy origin before count desk'
 
--- whatever a loader took, the last of its records is refused
+-- a loader had taken some bytes, whichever they are; the last of their records is refused
 abbrev pub StopsAtEnd : {D : Type 0} → (D → Bounds) → (D → List Bound) → (D → Option (List PlainView)) → (D → ℕ) → (D → Call → D → Type 0) → LoaderState → D → D → LoadFault → Type 0
 StopsAtEnd {D} bounds splits tables accepted leads old desk desk' fault = (origin : D) (before : List ℕ) → HasLoaded bounds splits tables accepted leads old.policy origin before old desk → HasStopped bounds splits tables accepted leads old.policy origin (all_records_in before) fault desk'

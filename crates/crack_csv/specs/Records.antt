@@ -20,6 +20,6 @@ without_header records = if is_header (slice_index_or records 0 []) then drop 1 
 abbrev pub new_row_of : List (List ℕ) → Option NewRow
 new_row_of fields = option_map (λ n. record { key = n.0; payload = n.1 }) (two_of key_read payload_read fields)
 
--- the first records of a text
+-- these are the first records of a text
 abbrev pub AreFirstOf : List ℕ → List (List (List ℕ)) → Type 0
 AreFirstOf text records = (state : State) × (rest : List ℕ) × Reached default_config st.StartRecord text records state rest

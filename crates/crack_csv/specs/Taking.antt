@@ -33,7 +33,7 @@ kept_by act.EndRecord c k = record k { whole = min 3 (k.whole + 1) }
 abbrev pub kept_with : KeptRecord → ℕ → KeptRecord
 kept_with k c = kept_by (step default_config k.state c).1 c (record k { state = (step default_config k.state c).0 })
 
--- the action for an effect
+-- the action of the `csv` crate's reader that an effect stands for
 abbrev pub action_of : Effect → Action
 action_of ef.Skip = act.Skip
 action_of ef.Copy = act.Copy

@@ -33,13 +33,13 @@ pub(crate) enum Place {
 /// The effect of a byte.
 #[derive(Clone, Copy, PartialEq, Eq, Debug)]
 enum Effect {
-    /// It has none.
+    /// The byte has none.
     Skip,
-    /// It is added to the field.
+    /// The byte is added to the field.
     Copy,
-    /// It ends the field.
+    /// The byte ends the field.
     EndField,
-    /// It ends the field and the record.
+    /// The byte ends the field and the record.
     EndRecord,
 }
 

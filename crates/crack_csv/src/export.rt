@@ -117,7 +117,7 @@ fn export_part<D: Desk, W: Write>(
     }
 }
 
-/// The rows that a reply lists.
+/// The rows in the reply to a select; none for any other reply.
 fn listed(reply: &Reply) -> &[Row]
     ensures { result.now ≡ rows_listed reply.now }
 {
@@ -165,7 +165,7 @@ fn push_rows(rows: &[Row], at: usize, out: &mut Output) -> usize
     next
 }
 
-/// Writes the output, and empties it.
+/// Writes the output, and empties it. Refused with `WriteFault` if the writer fails.
 fn send_all<W: Write>(writer: &mut Watched<W>, out: &mut Output) -> Result<(), Refusal>
     ensures writes { Writes W.contents out.old.items result writer.old writer.new }
     ensures empty { out.new.items ≡ [] }

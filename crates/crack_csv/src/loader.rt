@@ -131,7 +131,8 @@ impl Loader {
         self.begun.end()
     }
 
-    /// Takes one more byte.
+    /// Takes one more byte, and inserts the row of a record that it finishes. Refused for the cause for which that
+    /// row isn't inserted.
     #[inline(always)]
     fn take_byte<D: Desk>(&mut self, desk: &mut D, byte: u8) -> Result<(), Refusal>
         ensures goes_on { OnOk result (Takes D.bounds D.splits D.tables D.accepted D.leads self.old (byte ∷ []) desk.old
@@ -171,7 +172,7 @@ impl Loader {
         }
     }
 
-    /// Implements `takes_mark` for the first bytes.
+    /// Does what `takes_mark` does, for the first three bytes.
     #[inline(never)]
     fn takes_last_mark(&mut self, byte: u8) -> bool
         ensures marked { result ≡ true → (self.old.head ≡ 2) × (byte ≡ 0xBF) × (self.new.head ≡ 3) }
@@ -252,14 +253,14 @@ impl Loader {
         self.number + 1
     }
 
-    /// The policy.
+    /// The policy by which rows are inserted.
     fn policy(&self) -> Policy
         ensures { result ≡ self.now.policy }
     {
         self.policy
     }
 
-    /// The row of the record that has ended, if it has one.
+    /// The row of the record that has ended, or `None` if the record isn't a row.
     fn next_row(&self) -> Option<NewRow>
         ensures { result ≡ kept_row self.now.kept }
     {

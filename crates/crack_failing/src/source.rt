@@ -56,7 +56,7 @@ impl<'a> Source<'a> {
         }
     }
 
-    /// The bytes that weren't read yet.
+    /// The bytes of memory that weren't read yet.
     pub fn left(&self) -> &'a [u8]
         ensures { result.now ≡ self.now.bytes.now }
     {

@@ -36,7 +36,7 @@ fn is_due(reported: Option<u64>, now: u64, is_end: bool) -> bool {
     }
 }
 
-/// The result of an accept.
+/// What an accept has brought.
 #[derive(Drop)]
 pub(crate) enum Arrival {
     /// A connection was accepted.
@@ -123,7 +123,7 @@ impl Admission {
         arrival
     }
 
-    /// Waits until all threads are started.
+    /// Waits until all threads of the server are started: the lock is held until then.
     pub(crate) fn await_start<Rt: Wait>(&self, rt: &Rt) {
         drop(self.progress.lock(rt));
     }
@@ -180,7 +180,7 @@ impl Admission {
         Some(count)
     }
 
-    /// Stops the server: no more connections are accepted.
+    /// Stops the server: no more connections are accepted, and each ends as soon as it has nothing to read.
     pub(crate) fn stop(&self) {
         self.is_over.store(true, Ordering::SeqCst);
         self.is_stopping.store(true, Ordering::SeqCst);

@@ -62,7 +62,7 @@ pub(crate) struct Crowd {
 }
 
 impl Crowd {
-    /// A thread without connections.
+    /// The state of a thread without connections.
     pub(crate) fn new(alloc: Global, poll: Poll, listener: TcpListener, now: u64) -> Crowd {
         Crowd {
             poll,

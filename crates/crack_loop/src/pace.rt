@@ -1,6 +1,6 @@
 //! How many statements a server answered in the last minute, and the longest time that one turn took.
 
-/// How many seconds are remembered.
+/// For how many seconds statements are remembered.
 pub(crate) const SECONDS: u64 = 60;
 
 /// The statements of the last seconds. The index of a second is its number modulo `SECONDS`.

@@ -19,7 +19,8 @@ ended Appends c = appended c
 abbrev pub IsLasting : Carried → Type 0
 IsLasting c = times c.hand.slot (slots c.store.pending_out) ≡ 0
 
--- a carry may end by this rule
+-- a carry may end by this rule: the row in hand is buried if it is doomed, and otherwise evicted, or appended if its
+-- own piece ends at the column's end
 abbrev pub MayEnd : CarryEnd → Carried → Type 0
 MayEnd Buries c = IsDoomed c
 MayEnd Evicts c = IsLasting c

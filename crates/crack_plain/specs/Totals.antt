@@ -14,10 +14,10 @@ abbrev pub is_gone : Reply → Bool
 is_gone (Gone row) = true
 is_gone _ = false
 
--- how many rows were inserted
+-- how many rows the entries' commands inserted
 abbrev pub inserted : List Entry → ℕ
 inserted es = count_by (λ (e : Entry). is_placed e.reply) es
 
--- how many rows were deleted
+-- how many rows the entries' commands deleted
 abbrev pub deleted : List Entry → ℕ
 deleted es = count_by (λ (e : Entry). is_gone e.reply) es

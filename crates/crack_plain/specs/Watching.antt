@@ -7,7 +7,7 @@ use Rattle.crack_plain.specs.declared.statistics.Statistics.{Statistics}
 abbrev pub capped_sum : ℕ → ℕ → ℕ
 capped_sum m n = min (m + n) (2 ^ 64 - 1)
 
--- the statistics of no partition
+-- the statistics of no partition: each number is 0
 abbrev pub no_statistics : Statistics
 no_statistics = record { rows = 0; pending_insertions = 0; pending_deletions = 0; pieces = 0; cells = 0; free_cells = 0; commands_accepted = 0; commands_since_checkpoint = 0 }
 

@@ -17,7 +17,7 @@ pub struct Statistics {
 }
 
 impl Statistics {
-    /// The statistics of no partition.
+    /// The statistics of no partition: each number is 0.
     pub fn none() -> Statistics
         ensures { result ≡ no_statistics }
     {

@@ -124,7 +124,7 @@ fn words_of(refusal: Refusal, cause: Cause) -> &'static str {
 
 /// The calls that a server makes of the program that runs it, on any of its threads.
 pub trait Host {
-    /// Reports an event.
+    /// Reports an event to the program. Called on any of the server's threads.
     fn note(&self, notice: Notice);
 
     /// Waits for a moment, after a failed system call that is to be repeated.

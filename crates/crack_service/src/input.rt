@@ -41,7 +41,7 @@ pub fn divide(alloc: Global, input: &[u8], workers: usize) -> Result<Vec<Vec<u8>
     Ok(shares)
 }
 
-/// Makes this many empty shares.
+/// Makes an empty share of the input for each of this many workers. Refused if no memory is found.
 fn empty_shares(alloc: Global, workers: usize) -> Result<Vec<Vec<u8>>, AllocError>
     ensures { IfOk result (λ shares. vec_len shares ≡ workers) }
 {
@@ -71,7 +71,7 @@ fn is_blank(line: &[u8]) -> bool {
         .all(|byte| *byte == b' ')
 }
 
-/// Adds a line's statement to the share of the worker that its number names.
+/// Adds a line's statement to the share of the worker that its number names. Refused as `divide` is.
 fn deal(shares: &mut Vec<Vec<u8>>, line: &[u8]) -> Result<(), Refusal>
     requires { 0 < vec_len shares.old }
     ensures { vec_len shares.new ≡ vec_len shares.old }
@@ -86,7 +86,8 @@ fn deal(shares: &mut Vec<Vec<u8>>, line: &[u8]) -> Result<(), Refusal>
     Ok(())
 }
 
-/// The number at the beginning of a line, and the bytes after it and one space.
+/// The number at the beginning of a line, and the bytes after it and one space. `None` if a line has no number of 32
+/// bits there.
 fn numbered(line: &[u8]) -> Option<(u32, &[u8])> {
     let space = memchr(b' ', line)?;
     let number = read_number_up_to(u32::MAX, &line[..space])?;

@@ -138,7 +138,7 @@ abbrev pub is_short_answer : Answer → Bool
 is_short_answer (Refused e) = is_short e
 is_short_answer _ = false
 
--- the text of an answer
+-- the text of an answer, as the session writes it
 unfoldable pub answer_text : Answer → List ℕ
 answer_text (Replied part reply) = reply_text part reply
 answer_text (Counted total) = line_text (codes "count ") (decimal total)

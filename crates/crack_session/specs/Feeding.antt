@@ -72,7 +72,7 @@ abbrev pub lists_from : List PartReply → ℕ → List ℕ
 lists_from [] at = []
 lists_from (r ∷ rs) at = flat_map (row_text r.part) (drop at (rows_listed r.reply)) ++ flat_map (λ (r : PartReply). flat_map (row_text r.part) (rows_listed r.reply)) rs
 
--- the rest of an answer's text
+-- the bytes of the rest of an answer's text
 abbrev pub rest_text : Rest → List ℕ
 rest_text Nothing = []
 rest_text (Rows part rows at) = flat_map (row_text part) (drop at rows)

@@ -32,6 +32,6 @@ stores_lead old (Looked part outcome) new = IfOk outcome (λ layout. (p : Part) 
 stores_lead old (Measured part outcome) new = (outcome ≡ expected_statistics (slice_get old part)) × (new ≡ old)
 stores_lead old (Surveyed traffic) new = new ≡ old
 
--- the effect of a call of a core
+-- the effect of a call of a core, as a desk
 abbrev pub core_leads : CoreState → Call → CoreState → Type 0
 core_leads old call new = rows_lead (bounds_of old.limits) old.splits (tables_of old.parts) call (tables_of new.parts) × stores_lead old.parts call new.parts

@@ -44,7 +44,7 @@ StopsAs None bytes left s = (left ≡ 0) × (s.unwritten ≡ []) × (s.ending �
 StopsAs (Some InputEnded) bytes left s = (left ≡ 0) × (s.unwritten ≡ []) × (s.ending ≡ None) × (bytes ≡ [])
 StopsAs (Some Quit) bytes left s = (s.unwritten ≡ []) × (last : Ending) × (s.ending ≡ Some last)
 
--- A reader is read once.
+-- A reader was read once, and gave these bytes.
 pub record ReadsOnce {R : Type 0} (remaining : R → Option (List ℕ)) (old new : Watched R) (bytes : List ℕ) : Type 0 where
   pub few : length bytes ≤ READ_BYTES
   pub consumed : Consumes (remaining (device old)) (remaining (device new)) bytes

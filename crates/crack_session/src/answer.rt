@@ -20,7 +20,7 @@ use crack_plain::Statistics;
 use crack_row::{Command, Key, KeyRange, Layout, Policy, Refusal, Reply};
 use std::alloc::Global;
 
-/// The answer to a statement.
+/// The answer to a statement, before it is written as text.
 #[derive(Drop)]
 pub enum Answer {
     /// The reply of one partition.
@@ -37,7 +37,7 @@ pub enum Answer {
         total: u64,
         lists: ReplyList,
     },
-    /// The layout of a partition.
+    /// The layout of this partition.
     Laid {
         part: u32,
         layout: Layout,

@@ -246,7 +246,7 @@ impl Session {
         self.take_any_line(alloc, desk, bytes, out)
     }
 
-    /// Implements `take_line` for any line.
+    /// Does what `take_line` does, for a line of any form.
     #[inline(never)]
     fn take_any_line<D: Desk>(
         &mut self,

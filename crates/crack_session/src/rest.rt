@@ -22,7 +22,7 @@ pub type Output = ArrayVec<u8, OUTPUT_BYTES>;
 /// The rest of an answer's text: the lines of rows or pieces that aren't appended yet.
 #[derive(Drop)]
 pub enum Rest {
-    /// Nothing.
+    /// Nothing is left.
     Nothing,
     /// The rows of one partition, from index `at` on.
     Rows {
@@ -53,7 +53,7 @@ pub fn has_room(out: &Output, count: usize) -> bool
 }
 
 impl Rest {
-    /// Whether nothing is left.
+    /// Whether nothing is left of the text.
     #[inline(always)]
     pub fn is_nothing(&self) -> bool
         ensures { result ≡ is_nothing self.now }

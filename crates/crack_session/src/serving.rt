@@ -141,6 +141,7 @@ pub fn serve_read<D: Desk, R: Read, W: Write>(
 }
 
 /// Reads as many bytes as are available and fit, and returns how many. Returns 0 only at the end of the input.
+/// Refused with `ReadFault` if the reader fails.
 fn read_some<R: Read>(
     reader: &mut Watched<R>,
     room: &mut [u8; READ_BYTES],
@@ -246,7 +247,8 @@ fn has_stopped(why: Why) -> bool
     !matches!(why, Why::Full)
 }
 
-/// Writes the rest of a text.
+/// Writes the rest of a text that didn't fit into the output, in as many writes as it needs. Refused with
+/// `WriteFault` if the writer fails.
 #[inline(never)]
 fn feed_rest<D: Desk, W: Write>(
     alloc: Global,

@@ -13,20 +13,20 @@ use Rattle.crack_witness.specs.Receipts.{entry_of}
 abbrev pub at : {X : Type 0} → List (List X) → ℕ → ℕ → Option X
 at lists part position = option_and_then (λ list. slice_get list position) (slice_get lists part)
 
--- exactly one receipt names the place, and it holds the entry that is there
+-- the place is met: exactly one receipt names it, and this one holds the entry there
 abbrev pub IsMetBy : List Receipt → ℕ → ℕ → Entry → Type 0
 IsMetBy receipts part position entry =
     (r : Receipt) × (filter (λ s. (s.part == part) && (s.position == position)) receipts ≡ r ∷ []) × (entry_of r ≡ entry)
 
--- each place of a partition is met
+-- the partition is covered: each place of it is met
 abbrev pub IsCovered : List Receipt → ℕ → List Entry → Type 0
 IsCovered receipts part list = (position : ℕ) (entry : Entry) → slice_get list position ≡ Some entry → IsMetBy receipts part position entry
 
--- each place below a bound is met
+-- each place of a partition below this position is met
 abbrev pub MetBelow : List Receipt → ℕ → List Entry → ℕ → Type 0
 MetBelow receipts part list bound = (position : ℕ) (entry : Entry) → position < bound → slice_get list position ≡ Some entry → IsMetBy receipts part position entry
 
--- each partition below a bound is covered
+-- each partition below this number is covered
 abbrev pub CoveredBelow : List (List Entry) → List Receipt → ℕ → Type 0
 CoveredBelow lists receipts bound = (part : ℕ) (list : List Entry) → part < bound → slice_get lists part ≡ Some list → IsCovered receipts part list
 

@@ -21,7 +21,7 @@ abbrev pub missing_below : {W : Type 0} → (W → ℕ) → List W → ℕ → �
 missing_below number_of workers zero = 0
 missing_below number_of workers (suc number) = missing_below number_of workers number + (if list_any (λ worker. number_of worker == number) workers then 0 else 2 ^ number)
 
--- the partitions inside witnessed partitions
+-- the partitions themselves, without their histories
 abbrev pub held_by : List WitnessedState → List Part
 held_by parts = map (λ (w : WitnessedState). w.held) parts
 

@@ -16,7 +16,7 @@ use Rattle.crack_core.specs.declared.step.Job.TheVariants.{Perform}
 use Rattle.crack_core.specs.declared.step.Done.TheVariants.{Replied}
 use Rattle.crack_witness.specs.Witnesses.{WitnessedState, past_of}
 
--- the pasts of partitions
+-- the past of each partition: its base and the entries since
 abbrev pub pasts_of : (ℕ → ℕ) → List WitnessedState → List Past
 pasts_of owner parts = map (past_of owner) parts
 
@@ -40,7 +40,7 @@ first_refusal [] = None
 first_refusal (Ok reply ∷ results) = first_refusal results
 first_refusal (Err e ∷ results) = Some e
 
--- a past as of its last checkpoint
+-- a past as it was after its last checkpoint: the base alone
 abbrev pub at_base : Past → Past
 at_base past = record { base = past.base; tail = [] }
 
@@ -48,7 +48,7 @@ at_base past = record { base = past.base; tail = [] }
 abbrev pub table_of_past : Past → PlainView
 table_of_past past = record { state = state_after past; folded = past.base.folded; since = length past.tail }
 
--- the plain table of a past as of its last checkpoint
+-- the plain table of a past as it was after its last checkpoint
 abbrev pub table_at_base : Past → PlainView
 table_at_base past = table_of_past (at_base past)
 

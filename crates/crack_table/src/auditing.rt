@@ -50,7 +50,7 @@ fn compare_lists<J: Naming>(
     cover(alloc, lists.as_slice(), receipts.as_slice())
 }
 
-/// The partitions' lists of entries.
+/// The partitions' lists of entries, one for each partition. All must have one. Refused if no memory is found.
 fn lists_in<'a, J: Naming>(
     alloc: Global,
     parts: &'a Vec<Witnessed<J>>,
@@ -77,7 +77,7 @@ fn list_of<J: Naming>(part: &Witnessed<J>) -> &[Entry]
     }
 }
 
-/// Whether a partition lists its entries.
+/// Whether a partition keeps a list of its entries, as it does with an audit.
 pub(crate) fn is_listed<J: Naming>(part: &Witnessed<J>) -> bool
     ensures { result ≡ is_some part.now.entries }
 {
@@ -87,7 +87,7 @@ pub(crate) fn is_listed<J: Naming>(part: &Witnessed<J>) -> bool
     }
 }
 
-/// The receipts of the workers, one list for each worker.
+/// The receipts of the workers, one list for each worker. Refused if no memory is found.
 fn receipts_in<'a, J: Naming>(
     alloc: Global,
     workers: &'a Vec<Worker<J>>,

@@ -135,7 +135,7 @@ fn is_right_in(list: &[Entry], receipt: &Receipt) -> Option<bool>
     Some(is_entry(entry, receipt))
 }
 
-/// Whether a receipt holds this entry.
+/// Whether a receipt has the worker, the command and the reply of this entry.
 fn is_entry(entry: &Entry, receipt: &Receipt) -> bool
     ensures { IsTrue result ↔ (entry_of receipt.now ≡ entry.now) }
 {

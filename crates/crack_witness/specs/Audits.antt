@@ -6,7 +6,7 @@ use Rattle.std.specs.Global.{Vec}
 abbrev pub listed : {X : Type 0} → Option (Vec X) → Option (List X)
 listed list = option_map (λ items. items.items) list
 
--- an empty list if there is an audit
+-- an empty list if there is an audit, else no list
 abbrev pub empty_list : {X : Type 0} → Bool → Option (List X)
 empty_list audited = if audited then Some [] else None
 

@@ -21,7 +21,7 @@ AreHistories log = (owner : ℕ) → AreReplies no_rows (history_of owner log)
 abbrev pub AreEmpty : List Event → Type 0
 AreEmpty log = (owner : ℕ) → history_of owner log ≡ []
 
--- the entries of one worker, in order
+-- those of the entries that are by one worker, in order
 abbrev pub calls_by : ℕ → List Entry → List Entry
 calls_by worker es = filter (λ (e : Entry). e.worker == worker) es
 

@@ -22,11 +22,11 @@ abbrev pub Among : {X : Type 0} → (X → Type 0) → List X → Type 0
 Among P [] = ⊥
 Among P (x ∷ xs) = P x ⊎ Among P xs
 
--- an event is this owner's
+-- one of the events is this owner's
 abbrev pub HasOwner : ℕ → List Event → Type 0
 HasOwner owner log = Among (λ (e : Event). e.owner ≡ owner) log
 
--- an event is at this word
+-- one of the events is at this word
 abbrev pub HasWord : ℕ → List Event → Type 0
 HasWord k log = Among (λ (e : Event). e.word ≡ k) log
 
@@ -48,12 +48,12 @@ pub record IsScribe (b : Book) (owner : ℕ) (word : Named) (pen : Book) (key : 
   pub next_is : last.next ≡ key
   pub at_word : last.word ≡ word.key
 
--- an owner in this book without an entry
+-- this is an owner in this book, and it has no entry
 pub record IsNew (b : Book) (o : OwnerState) : Type 0 where
   pub book_is : o.book ≡ b
   pub empty : history_of o.id o.log ≡ []
 
--- the owner of partition `part`, without an entry
+-- this is the owner of partition `part`, and it has no entry
 pub record IsOwnerAt (b : Book) (owner : ℕ → ℕ) (part : ℕ) (o : OwnerState) : Type 0 where
   pub book_is : o.book ≡ b
   pub id_is : o.id ≡ owner part

@@ -4,7 +4,7 @@ use Rattle.crack_row.specs.declared.command.Entry.{Entry}
 use Rattle.crack_plain.specs.Totals.{inserted, deleted}
 use Rattle.crack_witness.specs.declared.receipt.Receipt.{Receipt}
 
--- the entry of a receipt
+-- the entry that a receipt holds: its worker, command and reply
 abbrev pub entry_of : Receipt → Entry
 entry_of r = record { worker = r.worker; command = r.command; reply = r.reply }
 

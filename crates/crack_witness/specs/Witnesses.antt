@@ -150,7 +150,7 @@ MayRefuseAt owner w part command a e =
     ⊎ (((e ≡ StrangeReceipt part (replies_at a part)) × (Knows owner a part w → ⊥))
     ⊎ ((e ≡ OutOfMemory) ⊎ (refusal_of w.held command ≡ Some e)))
 
--- the number of a worker's replies
+-- the number of a worker's replies from all partitions
 abbrev pub replies_to : WorkerState → ℕ
 replies_to a = sum_by (λ (n : ℕ). n) a.counts
 

@@ -112,7 +112,7 @@ fn make_room(
     Ok(partition.accepted())
 }
 
-/// Makes room for one more item in a list, if there is one: O(1), amortised.
+/// Makes room for one more item in a list, if there is a list: O(1), amortised. Refused if no memory is found.
 pub(crate) fn reserve<T: Drop>(list: &mut Option<Vec<T>>) -> Result<(), AllocError>
     ensures same { listed list.new ≡ listed list.old }
     ensures room { OnOk result (HasRoom list.new) }
@@ -125,7 +125,7 @@ pub(crate) fn reserve<T: Drop>(list: &mut Option<Vec<T>>) -> Result<(), AllocErr
     Ok(())
 }
 
-/// Adds an item to a list with room for it, if there is one.
+/// Adds an item to a list, if there is a list. It must have room.
 fn add<T: Drop>(list: &mut Option<Vec<T>>, item: T)
     requires room { HasRoom list.old }
     ensures { listed list.new ≡ and_one (listed list.old) item }

@@ -106,7 +106,7 @@ impl Model for Opened {
 }
 
 impl Opened {
-    /// Opens a new book with this many owners, one for each partition. O(owners).
+    /// Opens a new book with this many owners, one for each partition. Refused if no memory is found. O(owners).
     pub fn new(alloc: Global, count: u32) -> Result<Opened, AllocError>
         ensures count { IfOk result (λ o. length o.ids ≡ count) }
         ensures distinct { IfOk result (λ o. AreDistinct o.ids) }

@@ -127,7 +127,7 @@ impl<J: Naming> Worker<J> {
         }
     }
 
-    /// Makes room for one receipt if there is an audit: O(1), amortised.
+    /// Makes room for one receipt if there is an audit: O(1), amortised. Refused if no memory is found.
     pub fn reserve(&mut self) -> Result<(), AllocError>
         ensures { self.new ≡ self.old }
     {

@@ -112,7 +112,7 @@ impl<'a, R: Wait, G: Gate, J: Naming> Desk for WorkerDesk<'a, R, G, J> {
         self.table.splits()
     }
 
-    /// O(partitions).
+    /// The number of the worker's replies. O(partitions).
     fn accepted(&self) -> u64 {
         self.worker.replies()
     }

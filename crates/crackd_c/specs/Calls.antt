@@ -25,11 +25,11 @@ use Rattle.crackd_c.specs.declared.handle.Handle.{Handle}
 use Rattle.crackd_c.specs.declared.picture.Totals.{Totals}
 use Rattle.crackd_c.specs.declared.status.TheConstants.{CLOSED, LENGTHS_DIFFER, NO_SUCH_POLICY}
 
--- the policy with this number
+-- the policy with this number, if there is one
 abbrev pub policy_at : ℕ → Option Policy
 policy_at n = if n == 0 then Some Complete else (if n == 1 then Some Gradual else (if n == 2 then Some Ripple else (if n == 3 then Some Auto else None)))
 
--- the totals of a layout
+-- the totals of a layout, without its pieces
 abbrev pub totals_in : Layout → Totals
 totals_in layout = record { rows = layout.rows; column = layout.column; pending_out = layout.pending_out; pending_in = layout.pending_in; cells = layout.cells; free = layout.free; pieces = length layout.pieces }
 
@@ -43,7 +43,7 @@ PiecesIn pieces lows sizes = (k : ℕ) (piece : PieceSize) → slice_get pieces 
 abbrev pub status_of : Option Refusal → ℕ
 status_of refusal = option_map_or code_of refusal 0
 
--- splits as bounds
+-- the bounds with these numbers
 abbrev pub bounds_at : List ℕ → List Bound
 bounds_at splits = map (λ (split : ℕ). record { 0 = split }) splits
 

@@ -25,7 +25,7 @@ pub fn open(alloc: Global, splits: &[u64], limits: Limits) -> Result<Box<Core>, 
     Ok(held)
 }
 
-/// The splits as bounds.
+/// The splits as bounds. Refused with `OutOfMemory` if no memory is found for the list.
 fn bounds_of(alloc: Global, splits: &[u64]) -> Result<Vec<Bound>, Refusal>
     ensures ok { IfOk result (λ bounds. bounds.items ≡ bounds_at splits.now) }
     ensures err { IfErr result (λ e. e ≡ Refusal.OutOfMemory) }

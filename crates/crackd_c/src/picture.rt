@@ -18,7 +18,7 @@ pub struct Totals {
     pub pieces: u64,
 }
 
-/// The totals of a layout.
+/// The totals of a layout, without its list of pieces.
 pub fn totals_of(layout: &Layout) -> Totals
     ensures { result ≡ totals_in layout.now }
 {

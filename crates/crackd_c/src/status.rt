@@ -9,19 +9,19 @@ use crack_row::{Policy, Refusal};
 /// The return value of a call that was answered.
 pub const ANSWERED: u32 = 0;
 
-/// The handle holds no table.
+/// The status of a call on a handle that holds no table.
 pub const CLOSED: u32 = 101;
 
-/// The handle already holds a table.
+/// The status of an opening in a handle that already holds a table.
 pub const ALREADY_OPEN: u32 = 102;
 
-/// The lists of a call differ in length.
+/// The status of a call whose lists differ in length.
 pub const LENGTHS_DIFFER: u32 = 103;
 
-/// There is no policy with this number.
+/// The status of a call with a number that is no policy's.
 pub const NO_SUCH_POLICY: u32 = 104;
 
-/// The policy with this number.
+/// The policy with this number: 0 is complete, 1 gradual, 2 ripple, 3 auto, and other numbers are none.
 pub fn policy_of(number: u32) -> Option<Policy>
     ensures { result ≡ policy_at number }
 {

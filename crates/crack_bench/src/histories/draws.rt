@@ -32,7 +32,7 @@ pub enum Asked {
     Checkpoint,
 }
 
-/// A question, and its partition.
+/// What a worker asks, and of which partition.
 #[derive(Clone, Copy)]
 pub struct Question {
     pub part: u32,
@@ -124,7 +124,7 @@ impl Draws {
         Key::from_number(self.key_of(part))
     }
 
-    /// The number of a key of a partition, or of the first partition if this one doesn't exist.
+    /// A random key of a partition, as a number; of the first partition if this one doesn't exist.
     fn key_of(&mut self, part: u32) -> KeyNumber {
         let first = FIRST_KEYS.get(part as usize).copied().unwrap_or(0);
         first.saturating_add(KeyNumber::from(self.below(DRAWN_KEYS)))

@@ -56,7 +56,7 @@ impl Recorder<'_> {
 }
 
 impl Questions for Recorder<'_> {
-    /// Begins together with the other workers.
+    /// Waits until the other workers begin too, and then has the worker ask `count` questions, and records them.
     fn ask_next<A: Works>(&mut self, worker: &mut A, count: u64) {
         self.gate.begin_together(self.workers);
         'questions: for _ in 0..count {

@@ -6,7 +6,8 @@ use crack_arena::{Arena, Handle, MOST_CELLS, MOST_FREED};
 use crack_row::{Key, KeyNumber, Payload, Refusal, Row, Serial};
 use std::time::Instant;
 
-/// Measures steps at random handles.
+/// Measures this many steps, each an insertion, a read or a free at a random handle, on an arena with this many rows.
+/// Writes how full the arena then is, and a checksum.
 pub fn measure<R: Output>(rt: &R, steps: u64, rows: u32) -> Outcome {
     let mut arena = Arena::new(rt.alloc());
     let mut handles = Vec::new(rt.alloc());

@@ -19,7 +19,7 @@ const WIDTH: BoundNumber = 42949672;
 /// The width of a narrow range: a thousandth of the keys.
 const NARROW_WIDTH: BoundNumber = 4294967;
 
-/// What a partition is asked.
+/// What a partition is asked to do.
 #[derive(Clone, Copy)]
 pub enum Ask {
     /// To insert a row with a random key.
@@ -82,6 +82,7 @@ pub struct Measured {
 }
 
 impl Measured {
+    /// A new partition that merges by this policy, with the first random numbers.
     pub fn open(alloc: Global, policy: Policy, sizes: Sizes) -> Result<Measured, Refusal> {
         let numbers = Numbers { state: 11 };
         Ok(Measured {

@@ -67,7 +67,7 @@ pub struct Kind {
     pub numbers: usize,
     /// How the rows are inserted.
     load: &'static [Step],
-    /// The steps after that.
+    /// The steps after the rows are inserted.
     steps: &'static [Step],
 }
 
@@ -304,7 +304,7 @@ pub fn kind_of(name: &str) -> Option<Kind> {
     }
 }
 
-/// Carries out a measurement.
+/// Carries out a measurement of a new partition that merges by this policy, and writes results and times.
 pub fn measure<R: Output>(rt: &R, kind: Kind, policy: Policy, sizes: Sizes) -> Outcome {
     let mut table = Measured::open(rt.alloc(), policy, sizes)?;
     let outcome = match take_all(rt, &mut table, kind.load) {
@@ -315,7 +315,7 @@ pub fn measure<R: Output>(rt: &R, kind: Kind, policy: Policy, sizes: Sizes) -> O
     outcome
 }
 
-/// Takes the steps of a list.
+/// Takes the steps of a list, in order.
 fn take_all<R: Output>(rt: &R, table: &mut Measured, steps: &[Step]) -> Outcome {
     let mut start = Instant::now(rt)?;
     'steps: for step in steps {
@@ -382,7 +382,7 @@ fn measure_each<R: Output>(
     Ok(())
 }
 
-/// How many times that is.
+/// How many times that is, in a measurement of these sizes.
 fn number_of(times: Times, sizes: Sizes) -> u32 {
     match times {
         Times::Once => 1,

@@ -17,7 +17,7 @@ impl Asks for Vec<Partition> {
     }
 }
 
-/// Takes the steps of one worker.
+/// Takes the steps of one worker at partitions without a table, and writes the results.
 pub fn run<R: Host>(rt: &R, rows: u32, steps: u32) -> Outcome {
     let mut partitions = opened(rt.alloc())?;
     let parts = Parts {

@@ -21,7 +21,7 @@ pub const POLICY: Policy = Policy::Gradual;
 pub enum Sharing {
     /// Partitions to which no other worker sends commands.
     Own,
-    /// All partitions.
+    /// All partitions of the table.
     Shared,
 }
 
@@ -37,14 +37,14 @@ pub enum Work {
     Nothing,
 }
 
-/// What happens at the end.
+/// What happens to the workers at the end of a run: they are gathered or dropped.
 #[derive(Clone, Copy)]
 pub enum End {
     Gather,
     Leave,
 }
 
-/// A run over one table.
+/// The parameters of a run over one table.
 #[derive(Clone, Copy)]
 pub struct Run {
     pub workers: u32,

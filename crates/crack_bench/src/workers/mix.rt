@@ -16,14 +16,14 @@ pub const PART_WIDTH: u32 = 67108864;
 /// How many keys the range of a sum has.
 const RANGE_WIDTH: u32 = PART_WIDTH / 100;
 
-/// Adjacent partitions.
+/// Adjacent partitions: the number of the first, and how many there are.
 #[derive(Clone, Copy)]
 pub struct Parts {
     pub first: u32,
     pub count: u32,
 }
 
-/// A row that was inserted.
+/// A row that was inserted: its partition and its serial.
 #[derive(Clone, Copy)]
 struct Placed {
     part: u32,
