@@ -30,11 +30,11 @@ pub data Went (call : NumberedCall) (count : ℕ) (old : List Part) : Progress �
   whole : (new : List Part) → Answered call old count new → Went call count old (record { done = count; refusal = None }) new
   stopped : (done : ℕ) (e : Refusal) (between new : List Part) → done < count → Answered call old done between → call done (Some e) between new → Went call count old (record { done = done; refusal = Some e }) new
 
--- the key with the number at an index of a list
+-- the key at an index of a list of numbers, or 0 if the list ends before it
 abbrev pub key_in : List ℕ → ℕ → Key
 key_in keys k = record { 0 = slice_index_or keys k 0 }
 
--- the payload with the number at an index of a list
+-- the payload at an index of a list of numbers, or 0 if the list ends before it
 abbrev pub payload_in : List ℤ → ℕ → Payload
 payload_in payloads k = record { 0 = slice_index_or payloads k (pos 0) }
 

@@ -40,7 +40,7 @@ IsStateAt _ _ named = ⊥
 abbrev pub AreStatesOf : List (List Entry) → List (List PlaceState) → List Receipt → Type 0
 AreStatesOf lists states receipts = (part position : ℕ) → IsStateAt (at lists part position) (at states part position) (filter (names part position) receipts)
 
--- the coverage by these receipts: the states of the places of all partitions
+-- after these receipts were added, each place of each partition has this state
 pub record IsCoverage (lists : List (List Entry)) (states : List (List PlaceState)) (receipts : List Receipt) : Type 0 where
   pub rows : length states ≡ length lists
   pub by_place : AreStatesOf lists states receipts

@@ -1,4 +1,4 @@
-//! Opening the book of a table, with an owner for each partition: the number by which the book knows it.
+//! Opening the book of a table, with an owner for each partition: a number that stands for the partition in the book.
 ghost use Rattle.std.specs.Prelude.{◌≡◌, ◌+◌, ◌<◌, ◌≤◌, ◌^◌, [], length, map, All, true, IfOk, vec_len};
 ghost use mathlib.Core.List.{IsPrefix};
 ghost use Rattle.crack_part.specs.Parts.{Part, table_of};

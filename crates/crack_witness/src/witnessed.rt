@@ -159,12 +159,13 @@ impl<J: Naming> Witnessed<J> {
         count_at(self.answered.as_slice(), worker)
     }
 
-    /// Answers a command of a worker that has received `count` replies from this partition so far, and writes the
-    /// entry into the history. Costs O(1) beyond `Partition::apply` and takes no memory; with an audit it adds the
-    /// entry to the partition's list, and the receipt to the worker's. Refused with `StrangeReceipt`, which carries
-    /// the partition's number and `count`, if the history has another number of the worker's entries, or this isn't
-    /// a worker of the table: then nothing has changed. Otherwise refused as `Partition::apply` is, with
-    /// `OutOfMemory` also for an audit's lists: then nothing is written.
+    /// Answers a command of a worker that has received `count` replies from this partition so far, and adds the entry
+    /// to the history. `me` is the worker's front: the events that it has seen, which afterwards end with this entry.
+    /// Costs O(1) beyond `Partition::apply` and takes no memory; with an audit it adds the entry to the partition's
+    /// list, and the receipt to the worker's. Refused with `StrangeReceipt`, which carries the partition's number and
+    /// `count`, if the history has another number of the worker's entries, or this isn't a worker of the table: then
+    /// nothing has changed. Otherwise refused as `Partition::apply` is, with `OutOfMemory` also for an audit's lists:
+    /// then nothing is written.
     pub fn ask(
         &mut self,
         me: &mut Front<J>,
