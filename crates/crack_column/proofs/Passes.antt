@@ -137,9 +137,6 @@ pub record IsLearned (cells : List (Cell Row)) (tags tags' : List Tag) (learned 
   pub known : All (Knows cells) tags'
   pub read : (k : ℕ) → k < i → k < length tags' → Read cells (get_or tags' k no_tag)
 
-pub length-IsLearned : (cells : List (Cell Row)) (ts ts' : List Tag) (n i : ℕ) → IsLearned cells ts ts' n i → length ts' ≡ length ts
-length-IsLearned cells ts ts' n i so_far = omega (arith, length-map ts' forgotten, length-map ts forgotten, ap (λ (xs : List Tag). length xs) so_far.kept)
-
 -- the i-th tag is read
 pub IsLearned-read : (cells : List (Cell Row)) (ts ts1 ts2 : List Tag) (n n2 i : ℕ) (m : Memory) → i < length ts1 → m ≡ memory_at cells (tag_handle (get_or ts1 i no_tag)) → ts2 ≡ set ts1 i (record (get_or ts1 i no_tag) { key = m.key; payload = m.payload }) → (get_or ts1 i no_tag).key ≡ unknown → ((m.key ≡ unknown) × (n2 ≡ n)) ⊎ ((m.key ≢ unknown) × (n2 ≡ n + 1)) → IsLearned cells ts ts1 n i → IsLearned cells ts ts2 n2 (i + 1)
 IsLearned-read cells ts ts1 ts2 n n2 i m inside is after was which so_far =

@@ -73,9 +73,6 @@ first-aside ts len inside =
 pub aside-longer : (ts : List Tag) (len : ℕ) → drop 1 (aside_in ts len) ≡ aside_in ts (len + 1)
 aside-longer ts len = drop-map aside_of 1 (drop len ts) ∙ ap (λ (xs : List Tag). map aside_of xs) (drop-drop 1 len ts)
 
-pub aside-shorter : (ts : List Tag) (len : ℕ) → len < length ts → aside_in ts len ≡ aside_of (get_or ts len no_tag) ∷ aside_in ts (len + 1)
-aside-shorter ts len inside = ap (λ (xs : List Tag). map aside_of xs) (drop_more ts len no_tag inside)
-
 -- a tag was set at a place of the column
 module _ (ts : List Tag) (place : ℕ) (t : Tag) (len : ℕ) (fits : len ≤ length ts) (first : place < len) where
   first_tags : take len (set ts place t) ≡ set (take len ts) place t

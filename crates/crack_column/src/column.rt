@@ -101,7 +101,7 @@ impl CrackerColumn {
         requires { place < length self.now.handles }
         ensures { result ≡ (slice_index_or self.now.handles place no_handle).slot }
     {
-        self.tags.label(place).handle.slot()
+        self.at(place).slot()
     }
 
     /// The first place of the handle, if it is in the column. O(n).
@@ -214,11 +214,11 @@ impl CrackerColumn {
         } }
         ensures remembered { StillRemembersWith handle remembered self.old self.new }
     {
-        let there = self.tags.get(place);
+        let replaced = self.tags.get(place);
         self.tags.set(place, Tag::new(handle, remembered));
         self.unread += remembered.unread();
-        self.unread -= there.unread();
-        (there.handle, there.remembered())
+        self.unread -= replaced.unread();
+        (replaced.handle, replaced.remembered())
     }
 
     /// Removes the last handle, and returns it. O(1).
@@ -315,7 +315,7 @@ impl CrackerColumn {
         requires { 0 < length self.now.aside }
         ensures { result ≡ (first_aside self.now).handle.slot }
     {
-        self.tags.label(self.len).handle.slot()
+        self.aside().slot()
     }
 
     /// What is remembered about the row of the handle that is aside. O(1).

@@ -7,14 +7,14 @@ use Rattle.crack_column.specs.Keeps.{unread_in}
 use Rattle.crack_column.specs.Inside.{Turns}
 use Rattle.crack_column.proofs.PlaceLaws.{length-in, Knows-Remembers, Cracks-Turns, length-Turns, aside-Turns, unread-Turns, unread-between}
 use Rattle.crack_column.proofs.column.CrackerColumn.crack_two.Goals as goal
-use Rattle.crack_column.proofs.column.CrackerColumn.crack_two.Goals.{After-crack_between-arg-1, After-crack_between-place}
+use Rattle.crack_column.proofs.column.CrackerColumn.crack_two.Goals.{After-self, After-crack_between-place}
 
-end_len : (c : After-crack_between-arg-1) → c.args.to ≤ c.self.inside.len
+end_len : (c : After-self) → c.args.to ≤ c.self.inside.len
 end_len c =
     let within = rw (← c.self.view_is) at c.requires.within in
     omega (arith, within, length-in c.self.inside.tags.items c.self.inside.len c.self.invariant.within)
 
-remembers : (c : After-crack_between-arg-1) → Remembers c.args.arena.now.cells (handles_in c.self.inside.tags.items c.self.inside.len) (remembered_in c.self.inside.tags.items c.self.inside.len)
+remembers : (c : After-self) → Remembers c.args.arena.now.cells (handles_in c.self.inside.tags.items c.self.inside.len) (remembered_in c.self.inside.tags.items c.self.inside.len)
 remembers c = rw (← c.self.view_is) at c.requires.remembered
 
 turned : (c : After-crack_between-place) → Turns c.args.arena.now.cells c.args.bound.0 c.args.from c.args.to c.self.inside.tags.items c.crack_between-place.new.self.items c.crack_between-place.result.0 c.crack_between-place.result.1
@@ -22,25 +22,25 @@ turned c = c.crack_between-place.ensures.turned
 
 cracked : (c : After-crack_between-place) → Cracks c.args.arena.now.cells c.args.bound.0 c.args.from c.args.to (handles_in c.self.inside.tags.items c.self.inside.len) (remembered_in c.self.inside.tags.items c.self.inside.len) (handles_in c.crack_between-place.new.self.items c.self.inside.len) (remembered_in c.crack_between-place.new.self.items c.self.inside.len) c.crack_between-place.result.0
 cracked c =
-    Cracks-Turns c.args.arena.now.cells c.args.bound.0 c.args.from c.args.to c.self.inside.tags.items c.crack_between-place.new.self.items c.crack_between-place.result.0 c.crack_between-place.result.1 c.self.inside.len c.self.invariant.within c.requires.order (end_len c.before) (turned c)
+    Cracks-Turns c.args.arena.now.cells c.args.bound.0 c.args.from c.args.to c.self.inside.tags.items c.crack_between-place.new.self.items c.crack_between-place.result.0 c.crack_between-place.result.1 c.self.inside.len c.self.invariant.within c.requires.order (end_len c.before.before) (turned c)
 
 -- what became known was unknown
 learned : (c : After-crack_between-place) → unread_in (take c.self.inside.len c.crack_between-place.new.self.items) + c.crack_between-place.result.1 ≡ c.self.inside.unread
 learned c =
-    let same = unread-Turns c.args.arena.now.cells c.args.bound.0 c.args.from c.args.to c.self.inside.tags.items c.crack_between-place.new.self.items c.crack_between-place.result.0 c.crack_between-place.result.1 c.self.inside.len c.self.invariant.within c.requires.order (end_len c.before) (turned c) in
+    let same = unread-Turns c.args.arena.now.cells c.args.bound.0 c.args.from c.args.to c.self.inside.tags.items c.crack_between-place.new.self.items c.crack_between-place.result.0 c.crack_between-place.result.1 c.self.inside.len c.self.invariant.within c.requires.order (end_len c.before.before) (turned c) in
     omega (arith, same, c.self.invariant.counted)
 
 long : (c : After-crack_between-place) → length c.crack_between-place.new.self.items ≡ length c.self.inside.tags.items
 long c =
-    length-Turns c.args.arena.now.cells c.args.bound.0 c.args.from c.args.to c.self.inside.tags.items c.crack_between-place.new.self.items c.crack_between-place.result.0 c.crack_between-place.result.1 c.self.inside.len c.self.invariant.within c.requires.order (end_len c.before) (turned c)
+    length-Turns c.args.arena.now.cells c.args.bound.0 c.args.from c.args.to c.self.inside.tags.items c.crack_between-place.new.self.items c.crack_between-place.result.0 c.crack_between-place.result.1 c.self.inside.len c.self.invariant.within c.requires.order (end_len c.before.before) (turned c)
 
 pub crack_between-place-requires-clause-known : goal.crack_between-place-requires-clause-known
 crack_between-place-requires-clause-known c =
-    (Knows-Remembers c.args.arena.now.cells c.self.inside.tags.items c.self.inside.len c.args.from c.args.to c.self.invariant.within (end_len c) (remembers c))
+    Knows-Remembers c.args.arena.now.cells c.self.inside.tags.items c.self.inside.len c.args.from c.args.to c.self.invariant.within (end_len c.before) (remembers c.before)
 
 pub crack_between-place-requires-clause-unread : goal.crack_between-place-requires-clause-unread
 crack_between-place-requires-clause-unread c =
-    let few = unread-between c.self.inside.tags.items c.self.inside.len c.args.from c.args.to c.self.invariant.within c.requires.order (end_len c) in
+    let few = unread-between c.self.inside.tags.items c.self.inside.len c.args.from c.args.to c.self.invariant.within c.requires.order (end_len c.before) in
     omega (arith, few, c.self.invariant.counted)
 
 pub overflow_sub-self : goal.overflow_sub-self
@@ -65,8 +65,8 @@ returns-clause-room c = rw (← c.self.view_is, long c.before, c.crack_between-p
 
 pub returns-clause-aside : goal.returns-clause-aside
 returns-clause-aside c =
-    rw (← c.self.view_is) (aside-Turns c.args.arena.now.cells c.args.bound.0 c.args.from c.args.to c.self.inside.tags.items c.crack_between-place.new.self.items c.crack_between-place.result.0 c.crack_between-place.result.1 c.self.inside.len c.self.invariant.within c.requires.order (end_len c.before.before) (turned c.before))
+    rw (← c.self.view_is) (aside-Turns c.args.arena.now.cells c.args.bound.0 c.args.from c.args.to c.self.inside.tags.items c.crack_between-place.new.self.items c.crack_between-place.result.0 c.crack_between-place.result.1 c.self.inside.len c.self.invariant.within c.requires.order (end_len c.before.before.before) (turned c.before))
 
 pub returns-clause-remembered : goal.returns-clause-remembered
 returns-clause-remembered c =
-    Cracks-remembers c.args.arena.now.cells c.args.bound.0 c.args.from c.args.to _ _ _ _ c.crack_between-place.result.0 (cracked c.before) (remembers c.before.before)
+    Cracks-remembers c.args.arena.now.cells c.args.bound.0 c.args.from c.args.to _ _ _ _ c.crack_between-place.result.0 (cracked c.before) (remembers c.before.before.before)

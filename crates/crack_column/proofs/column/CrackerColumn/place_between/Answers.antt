@@ -1,6 +1,5 @@
-use Rattle.std.proofs.Common.{◌≡◌, ◌≤◌, ◌+◌, ◌-◌, map, arith}
-use Rattle.std.specs.List.{between}
-use Rattle.crack_arena.specs.Arena.{no_handle, IsFirstAt, IsAbsent}
+use Rattle.std.proofs.Common.{◌≡◌, ◌≤◌, ◌+◌, ◌-◌, arith}
+use Rattle.crack_arena.specs.Arena.{no_handle}
 use Rattle.crack_column.specs.Places.{tag_handle}
 use Rattle.crack_column.proofs.PlaceLaws.{length-in, stretch_of}
 use Rattle.crack_column.proofs.column.CrackerColumn.place_between.Goals as goal

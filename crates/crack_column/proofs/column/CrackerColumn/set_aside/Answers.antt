@@ -1,5 +1,4 @@
-use Rattle.std.proofs.Common.{◌≡◌, ◌<◌, List, length, take, refl, ap, ◌∙◌, arith}
-use Rattle.crack_column.specs.declared.tag.Tag.{Tag}
+use Rattle.std.proofs.Common.{◌≡◌, ◌<◌, length, refl, ap, ◌∙◌, arith}
 use Rattle.crack_column.specs.Labels.{TagVector}
 use Rattle.crack_column.specs.Places.{room_in}
 use Rattle.crack_column.specs.Keeps.{unread_in}

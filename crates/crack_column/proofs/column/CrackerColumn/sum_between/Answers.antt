@@ -18,7 +18,7 @@ end_len c =
 pub sum_between-requires-clause-known : goal.sum_between-requires-clause-known
 sum_between-requires-clause-known c =
     let remembers = rw (← c.self.view_is) at c.requires.remembered in
-    (Knows-Remembers c.args.arena.now.cells c.self.inside.tags.items c.self.inside.len c.args.from c.args.to c.self.invariant.within (end_len c) remembers)
+    Knows-Remembers c.args.arena.now.cells c.self.inside.tags.items c.self.inside.len c.args.from c.args.to c.self.invariant.within (end_len c) remembers
 
 pub sum_between-requires-clause-unread : goal.sum_between-requires-clause-unread
 sum_between-requires-clause-unread c =

@@ -1,5 +1,5 @@
 use Rattle.std.proofs.Common.{◌≡◌, ◌<◌, ◌+◌, List, length, take, get_or, set, ◌∷◌, [], Some, arith, refl, sym, ap, ◌∙◌, length-set}
-use Rattle.crack_arena.specs.Arena.{Handle, times}
+use Rattle.crack_arena.specs.Arena.{times}
 use Rattle.crack_arena.proofs.Times.{times-le-length}
 use Rattle.crack_arena.specs.Rows.{unknown}
 use Rattle.crack_arena.specs.Memories.{Memory}
@@ -32,7 +32,7 @@ counted : (c : After-unread-2) → unread_in (take c.self.inside.len (now c)) + 
 counted c =
     let ts = c.self.inside.tags.items in
     let n = c.self.inside.len in
-    let there : c.get-there.result ≡ get_or ts c.args.place no_tag = c.get-there.ensures in
+    let there : c.get-replaced.result ≡ get_or ts c.args.place no_tag = c.get-replaced.ensures in
     let out_one : c.unread-2.result ≡ times unknown ((get_or ts c.args.place no_tag).key ∷ []) = c.unread-2.ensures ∙ ap (λ (t : Tag). times unknown (t.key ∷ [])) there in
     let same : unread_in (take n (now c)) ≡ unread_in (take n (set ts c.args.place (came c))) = ap (λ (us : List Tag). unread_in (take n us)) (now_is c) in
     omega (arith, c.self.invariant.counted, c.unread.ensures, out_one, same, unread-set ts c.args.place (came c) n c.self.invariant.within (first c))
@@ -58,12 +58,12 @@ invariant_of-self c =
 pub returns-clause-handle : goal.returns-clause-handle
 returns-clause-handle c =
     let d = (goal.at.returns-clause-handle c).After-unread-2 in
-    rw (← c.self.view_is) (stands_at c.self.inside.tags.items c.self.inside.len c.args.place c.self.invariant.within (first d) ∙ ap (λ (t : Tag). Some (tag_handle t)) (sym c.get-there.ensures))
+    rw (← c.self.view_is) (stands_at c.self.inside.tags.items c.self.inside.len c.args.place c.self.invariant.within (first d) ∙ ap (λ (t : Tag). Some (tag_handle t)) (sym c.get-replaced.ensures))
 
 pub returns-clause-known : goal.returns-clause-known
 returns-clause-known c =
     let d = (goal.at.returns-clause-known c).After-unread-2 in
-    rw (← c.self.view_is) (remembered_at c.self.inside.tags.items c.self.inside.len c.args.place c.self.invariant.within (first d) ∙ ap (λ (t : Tag). Some (memory_of t)) (sym c.get-there.ensures) ∙ ap (λ (m : Memory). Some m) (sym c.remembered.ensures))
+    rw (← c.self.view_is) (remembered_at c.self.inside.tags.items c.self.inside.len c.args.place c.self.invariant.within (first d) ∙ ap (λ (t : Tag). Some (memory_of t)) (sym c.get-replaced.ensures) ∙ ap (λ (m : Memory). Some m) (sym c.remembered.ensures))
 
 pub returns-clause-after : goal.returns-clause-after
 returns-clause-after c =
