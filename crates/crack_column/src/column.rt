@@ -183,20 +183,6 @@ impl CrackerColumn {
         self.append_aside();
     }
 
-    /// Replaces the handle at the place by this one, whose row is unknown, and returns the old one. O(1).
-    pub fn swap_in(&mut self, place: usize, handle: Handle<Row>) -> Handle<Row>
-        requires { place < length self.old.handles }
-        ensures result { slice_get self.old.handles place ≡ Some result }
-        ensures after { self.new ≡ record self.old {
-          handles = slice_set self.old.handles place handle;
-          remembered = slice_set self.old.remembered place nothing;
-        } }
-        ensures remembered { StillRemembers self.old self.new }
-    {
-        self.swap_in_remembered(place, handle, Remembered::nothing())
-            .0
-    }
-
     /// Replaces the handle at the place, and what is remembered about its row. Returns the old handle and what was
     /// remembered about its row. O(1).
     pub fn swap_in_remembered(
