@@ -5,10 +5,10 @@ use Rattle.std.proofs.lemmas.List.{get_or_default, get_or-set_same, get_or-set_o
 use Rattle.std.proofs.lemmas.List.Sums.{sum_by-cons, sum_by-set}
 use Rattle.std.proofs.lemmas.Bool.{cases_eq, cases_lt, lt-ltb, le-ltb, ltb-true, eqb-true, ne_eqb, true≢false}
 use Rattle.crack_arena.specs.declared.TheConstants.{MOST_CELLS}
-use Rattle.crack_arena.specs.Arena.{times, Handle, no_handle, empty_cell, cell_at, handle_for, put_in, set_at, freed_at, read, vacancy_at, IsWhole}
+use Rattle.crack_arena.specs.Arena.{times, Handle, no_handle, empty_cell, cell_at, handle_for, put_in, set_at, freed_at, read, vacancy_at, IsWholeArena}
 use Rattle.crack_arena.proofs.Times.{times-nil, times-cons, times_one, times_other, times_head, times_apart}
 use Rattle.crack_arena.specs.declared.cells.Cell.{Cell as Stored}
-use Rattle.crack_arena.specs.Links.{is_full, next_after, chain, cell_of, cells_of, words_of}
+use Rattle.crack_arena.specs.Links.{is_taken_word, next_after, chain, cell_of, cells_of, words_of}
 use Rattle.crack_arena.specs.Keeps.{is_vacant, vacancy, vacant_at, IsLinked}
 
 next_after-set_other : (words : List Handle) (k m : ℕ) (w : Handle) → m ≢ k → next_after (set words k w) m ≡ next_after words m
@@ -72,7 +72,7 @@ head_is_vacant words k zero freed some sound = absurd (omega (arith, some))
 head_is_vacant words k (suc n) freed some sound = (IsLinked-head words k n freed sound).cell
 
 -- the first free cell is filled
-pub IsLinked-fill : (words : List Handle) (k free freed : ℕ) (w : Handle) → 0 < free → is_full w ≡ true → w.generation ≡ (get_or words k no_handle).generation → IsLinked words k free freed → IsLinked (set words k w) (next_after words k) (free - 1) freed
+pub IsLinked-fill : (words : List Handle) (k free freed : ℕ) (w : Handle) → 0 < free → is_taken_word w ≡ true → w.generation ≡ (get_or words k no_handle).generation → IsLinked words k free freed → IsLinked (set words k w) (next_after words k) (free - 1) freed
 IsLinked-fill words k zero freed w some full same sound = absurd (omega (arith, some))
 IsLinked-fill words k (suc n) freed w some full same sound =
     let head = IsLinked-head words k n freed sound in
@@ -97,7 +97,7 @@ IsLinked-fill words k (suc n) freed w some full same sound =
     })
 
 -- a full cell is not the head
-pub head_is_other : (words : List Handle) (k head free freed : ℕ) → k < length words → is_full (get_or words k no_handle) ≡ true → IsLinked words head free freed → 0 < free → (head < 16777216) × (head ≢ k)
+pub head_is_other : (words : List Handle) (k head free freed : ℕ) → k < length words → is_taken_word (get_or words k no_handle) ≡ true → IsLinked words head free freed → 0 < free → (head < 16777216) × (head ≢ k)
 head_is_other words k head free freed within full sound some =
     let first = head_is_vacant words head free freed some sound in (
       omega (arith, first.within, sound.small),
@@ -112,13 +112,13 @@ chain_after words w head k (suc n) within apart leads =
     rw next (chain-set words k w head (suc n) apart)
 
 -- a full cell is off the chain
-pub full_is_off : (words : List Handle) (head k free freed : ℕ) → k < length words → is_full (get_or words k no_handle) ≡ true → IsLinked words head free freed → times k (chain words head free) ≡ 0
+pub full_is_off : (words : List Handle) (head k free freed : ℕ) → k < length words → is_taken_word (get_or words k no_handle) ≡ true → IsLinked words head free freed → times k (chain words head free) ≡ 0
 full_is_off words head k free freed within full sound =
     let none : vacant_at words k ≡ 0 = rw (lt-ltb k (length words) within, full) refl in
     sound.once k ∙ none
 
 -- a full cell is freed
-pub IsLinked-free : (words : List Handle) (head k free freed g next : ℕ) → k < length words → is_full (get_or words k no_handle) ≡ true → (get_or words k no_handle).generation ≡ g → next < 16777215 → (0 < free → (k + 1 + next) % 16777216 ≡ head) → IsLinked words head free freed → IsLinked (set words k (record { slot = next; generation = g + 1 })) k (free + 1) (freed + 1)
+pub IsLinked-free : (words : List Handle) (head k free freed g next : ℕ) → k < length words → is_taken_word (get_or words k no_handle) ≡ true → (get_or words k no_handle).generation ≡ g → next < 16777215 → (0 < free → (k + 1 + next) % 16777216 ≡ head) → IsLinked words head free freed → IsLinked (set words k (record { slot = next; generation = g + 1 })) k (free + 1) (freed + 1)
 IsLinked-free words head k free freed g next within full same few leads sound =
     let w : Handle = record { slot = next; generation = g + 1 } in
     let ks = chain words head free in
@@ -141,7 +141,7 @@ IsLinked-free words head k free freed g next within full same few leads sound =
     })
 
 -- a full cell is given another value
-pub IsLinked-write : (words : List Handle) (head k free freed : ℕ) (w : Handle) → k < length words → is_full (get_or words k no_handle) ≡ true → is_full w ≡ true → w.generation ≡ (get_or words k no_handle).generation → IsLinked words head free freed → IsLinked (set words k w) head free freed
+pub IsLinked-write : (words : List Handle) (head k free freed : ℕ) (w : Handle) → k < length words → is_taken_word (get_or words k no_handle) ≡ true → is_taken_word w ≡ true → w.generation ≡ (get_or words k no_handle).generation → IsLinked words head free freed → IsLinked (set words k w) head free freed
 IsLinked-write words head k free freed w within was full same sound =
     let ks = chain words head free in
     let apart : times k ks ≡ 0 = full_is_off words head k free freed within was sound in
@@ -215,7 +215,7 @@ module _ {T : Type 0} where
       let first = head_is_vacant (words_of stored) k free freed some sound in
       let within = (head_within stored k free freed some sound).0 in
       let vacant : is_vacant x.word ≡ true = rw (word_read stored k x within found) at first.vacant in
-      rw (cell_read stored k x within found) (by_test (is_full x.word) vacant)
+      rw (cell_read stored k x within found) (by_test (is_taken_word x.word) vacant)
     where
       by_test : (b : Bool) → not b ≡ true → cond b (Some x.value) None ≡ None
       by_test true e = absurd (true≢false (sym e))
@@ -239,7 +239,7 @@ module _ {T : Type 0} where
   pub record IsFullAt (stored : List (Stored T)) (h : Handle) : Type 0 where
     pub within : h.slot < length stored
     pub inside : h.slot < length (words_of stored)
-    pub full : is_full (get_or (words_of stored) h.slot no_handle) ≡ true
+    pub full : is_taken_word (get_or (words_of stored) h.slot no_handle) ≡ true
     pub generation : (get_or (words_of stored) h.slot no_handle).generation ≡ h.generation
 
   pub full_from_read : (stored : List (Stored T)) (h : Handle) → is_some (read (cells_of stored) h) ≡ true → IsFullAt stored h
@@ -268,30 +268,30 @@ module _ {T : Type 0} where
       stored_is [] n less = absurd (omega (arith, less))
       stored_is (x ∷ xs) n less = get_or_default (x ∷ xs) n (get_or (x ∷ xs) n x) x less
 
-      by_cell : h.slot < length stored → (x : Stored T) → get_or (words_of stored) h.slot no_handle ≡ x.word → is_some (cond (eqb x.word.generation h.generation) (cond (is_full x.word) (Some x.value) None) None) ≡ true → IsFullAt stored h
-      by_cell l x word found = by_tests (eqb x.word.generation h.generation) refl (is_full x.word) refl found
+      by_cell : h.slot < length stored → (x : Stored T) → get_or (words_of stored) h.slot no_handle ≡ x.word → is_some (cond (eqb x.word.generation h.generation) (cond (is_taken_word x.word) (Some x.value) None) None) ≡ true → IsFullAt stored h
+      by_cell l x word found = by_tests (eqb x.word.generation h.generation) refl (is_taken_word x.word) refl found
         where
-          by_tests : (b : Bool) → eqb x.word.generation h.generation ≡ b → (f : Bool) → is_full x.word ≡ f → is_some (cond b (cond f (Some x.value) None) None) ≡ true → IsFullAt stored h
+          by_tests : (b : Bool) → eqb x.word.generation h.generation ≡ b → (f : Bool) → is_taken_word x.word ≡ f → is_some (cond b (cond f (Some x.value) None) None) ≡ true → IsFullAt stored h
           by_tests true equal true full found = record {
             within = l;
             inside = omega (arith, l, length-words stored);
-            full = ap is_full word ∙ full;
+            full = ap is_taken_word word ∙ full;
             generation = ap (λ (w : Handle). w.generation) word ∙ eqb-true x.word.generation h.generation equal;
           }
           by_tests true equal false full found = absurd (true≢false (sym found))
           by_tests false equal f full found = absurd (true≢false (sym found))
 
-  pub freed_view : (stored : List (Stored T)) (head k free freed spare g : ℕ) (s : Stored T) → k < length (words_of stored) → is_full (get_or (words_of stored) k no_handle) ≡ true → s.word.generation ≡ g + 1 → s.word.slot < 16777215 → (0 < free → (k + 1 + s.word.slot) % 16777216 ≡ head) → IsLinked (words_of stored) head free freed → freed_at (record { slot = k; generation = g }) (record { cells = cells_of stored; free = chain (words_of stored) head free; room = free + spare }) ≡ record { cells = cells_of (set stored k s); free = chain (words_of (set stored k s)) k (free + 1); room = free + 1 + spare }
+  pub freed_view : (stored : List (Stored T)) (head k free freed spare g : ℕ) (s : Stored T) → k < length (words_of stored) → is_taken_word (get_or (words_of stored) k no_handle) ≡ true → s.word.generation ≡ g + 1 → s.word.slot < 16777215 → (0 < free → (k + 1 + s.word.slot) % 16777216 ≡ head) → IsLinked (words_of stored) head free freed → freed_at (record { slot = k; generation = g }) (record { cells = cells_of stored; free = chain (words_of stored) head free; room = free + spare }) ≡ record { cells = cells_of (set stored k s); free = chain (words_of (set stored k s)) k (free + 1); room = free + 1 + spare }
   freed_view stored head k free freed spare g s within full again few leads sound =
       let words = words_of stored in
       let apart : times k (chain words head free) ≡ 0 = full_is_off words head k free freed within full sound in
       let kept : chain (words_of (set stored k s)) (next_after (words_of (set stored k s)) k) free ≡ chain words head free = rw (words-set stored k s) (chain_after words s.word head k free within apart leads) in
       let longer : free + 1 ≡ suc free = add-one free in
       let more : free + spare + 1 ≡ suc free + spare = omega arith in
-      let vacant : is_full s.word ≡ false = ne_eqb s.word.slot 16777215 (λ e. absurd (omega (arith, e, few))) in
+      let vacant : is_taken_word s.word ≡ false = ne_eqb s.word.slot 16777215 (λ e. absurd (omega (arith, e, few))) in
       rw (longer, kept, more, map-set cell_of stored k s, vacant, again) refl
 
-  pub written_view : (stored : List (Stored T)) (head k free freed room g : ℕ) (s : Stored T) (v : T) → k < length (words_of stored) → is_full (get_or (words_of stored) k no_handle) ≡ true → s ≡ record { word = record { slot = 16777215; generation = g }; value = v } → IsLinked (words_of stored) head free freed → set_at v (record { slot = k; generation = g }) (record { cells = cells_of stored; free = chain (words_of stored) head free; room = room }) ≡ record { cells = cells_of (set stored k s); free = chain (words_of (set stored k s)) head free; room = room }
+  pub written_view : (stored : List (Stored T)) (head k free freed room g : ℕ) (s : Stored T) (v : T) → k < length (words_of stored) → is_taken_word (get_or (words_of stored) k no_handle) ≡ true → s ≡ record { word = record { slot = 16777215; generation = g }; value = v } → IsLinked (words_of stored) head free freed → set_at v (record { slot = k; generation = g }) (record { cells = cells_of stored; free = chain (words_of stored) head free; room = room }) ≡ record { cells = cells_of (set stored k s); free = chain (words_of (set stored k s)) head free; room = room }
   written_view stored head k free freed room g s v within full is sound =
       let words = words_of stored in
       let apart : times k (chain words head free) ≡ 0 = full_is_off words head k free freed within full sound in
@@ -307,16 +307,16 @@ module _ {T : Type 0} where
     | inl l ↦
         let x = get_or (s ∷ rest) n s in
         let found : x ≡ get_or (s ∷ rest) n x = get_or_default (s ∷ rest) n s x l in
-        rw (cell_read (s ∷ rest) n x l found, word_read (s ∷ rest) n x l found, length-map (s ∷ rest) cell_of, length-words (s ∷ rest), is_none_value (is_full x.word) x.value) refl
+        rw (cell_read (s ∷ rest) n x l found, word_read (s ∷ rest) n x l found, length-map (s ∷ rest) cell_of, length-words (s ∷ rest), is_none_value (is_taken_word x.word) x.value) refl
     | inr l ↦ rw (length-map (s ∷ rest) cell_of, length-words (s ∷ rest), le-ltb n (length (s ∷ rest)) l) refl
   ]
 
   vacant_count : (stored : List (Stored T)) → count_by (λ c. is_none c.value) (cells_of stored) ≡ count_by is_vacant (words_of stored)
   vacant_count [] = refl
   vacant_count (s ∷ rest) =
-      omega (arith, sum_by-cons (λ c. cond (is_none c.value) 1 0) (cell_of s) (cells_of rest), sum_by-cons vacancy s.word (words_of rest), vacant_count rest, ap (λ (b : Bool). cond {A = ℕ} b 1 0) (is_none_value (is_full s.word) s.value))
+      omega (arith, sum_by-cons (λ c. cond (is_none c.value) 1 0) (cell_of s) (cells_of rest), sum_by-cons vacancy s.word (words_of rest), vacant_count rest, ap (λ (b : Bool). cond {A = ℕ} b 1 0) (is_none_value (is_taken_word s.word) s.value))
 
-  pub IsWhole-from : (stored : List (Stored T)) (head free freed room : ℕ) → IsLinked (words_of stored) head free freed → IsWhole (record { cells = cells_of stored; free = chain (words_of stored) head free; room = room })
+  pub IsWhole-from : (stored : List (Stored T)) (head free freed room : ℕ) → IsLinked (words_of stored) head free freed → IsWholeArena (record { cells = cells_of stored; free = chain (words_of stored) head free; room = room })
   IsWhole-from stored head free freed room sound = record {
     free_once = λ n. sound.once n ∙ sym (vacancy_at_stored stored n);
     free_counted = omega (arith, length-chain (words_of stored) head free, sound.counted, vacant_count stored);

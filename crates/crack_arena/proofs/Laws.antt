@@ -2,7 +2,7 @@
 use Rattle.std.proofs.Common.{◌≡◌, ◌⊎◌, ℕ, ◌+◌, ◌<◌, ◌≤◌, Bool, true, false, List, [], ◌∷◌, length, get_or, set, cond, eqb, Option, Some, None, is_some, refl, sym, ap, inl, inr, arith, length-set}
 use Rattle.std.proofs.lemmas.List.{get_or-set_same, get_or-set_other, get_or_past, get_or_append_left, length_push}
 use Rattle.std.proofs.lemmas.Bool.{cases_eq, cases_lt, ne_eqb, eqb-true, true≢false}
-use Rattle.crack_arena.specs.Arena.{Handle, Cell, Arena, empty_cell, cell_at, read, IsSpent, KeepsSpent, cells_with, put_in, set_at, freed_at, Call, Put, Set, Free, Reserve, after_call, after_calls}
+use Rattle.crack_arena.specs.Arena.{Handle, Cell, Arena, empty_cell, cell_at, read, IsSpent, KeepsSpent, cells_with, put_in, set_at, freed_at, ArenaCall, Put, Set, Free, Reserve, after_call, after_calls}
 
 module _ {T : Type 0} where
   -- what a handle reads is the value of its cell, which has its generation
@@ -89,7 +89,7 @@ module _ {T : Type 0} where
         older = omega (arith, here);
       }
 
-  pub KeepsSpent-after_call : (call : Call T) (a : Arena T) → KeepsSpent a.cells (after_call call a).cells
+  pub KeepsSpent-after_call : (call : ArenaCall T) (a : Arena T) → KeepsSpent a.cells (after_call call a).cells
   KeepsSpent-after_call (Put v) a h spent = KeepsSpent-put_in v a h spent
   KeepsSpent-after_call (Set k v) a h spent = by_test (is_some (read a.cells k)) refl
     where
@@ -104,9 +104,9 @@ module _ {T : Type 0} where
   KeepsSpent-after_call (Reserve n) a h spent = spent
 
   -- over every list of calls a spent handle stays spent, and reads nothing
-  pub KeepsSpent-after : (calls : List (Call T)) (a : Arena T) → KeepsSpent a.cells (after_calls calls a).cells
+  pub KeepsSpent-after : (calls : List (ArenaCall T)) (a : Arena T) → KeepsSpent a.cells (after_calls calls a).cells
   KeepsSpent-after [] a h spent = spent
   KeepsSpent-after (c ∷ cs) a h spent = KeepsSpent-after cs (after_call c a) h (KeepsSpent-after_call c a h spent)
 
-  pub read_spent_after : (a : Arena T) (h : Handle) → IsSpent a.cells h → (calls : List (Call T)) → read (after_calls calls a).cells h ≡ None
+  pub read_spent_after : (a : Arena T) (h : Handle) → IsSpent a.cells h → (calls : List (ArenaCall T)) → read (after_calls calls a).cells h ≡ None
   read_spent_after a h spent calls = read_spent (after_calls calls a).cells h (KeepsSpent-after calls a h spent)

@@ -4,7 +4,7 @@ use Rattle.std.specs.Prelude.{min, replicate, if◌then◌else◌, OnOk, OnErr}
 use Rattle.std.proofs.lemmas.List.{length-append, length-replicate, append_assoc, append-nil, get_or_append_left, get_or-append_right, set-append_left, set-append_right, nil_from_length, length_push, drop-append-le, take-append-le, replicate_more, same_from_push}
 use Rattle.std.proofs.Math.Seq.{take-append_seam, drop-append-add}
 use Rattle.std.proofs.lemmas.Bool.{cases_lt}
-use Rattle.crack_arena.specs.Pages.{joined}
+use Rattle.crack_arena.specs.Pages.{joined_pages}
 use Rattle.crack_arena.specs.Keeps.{IsPaged}
 
 -- the page and the place of a number that is one page further on
@@ -33,9 +33,9 @@ on_err (Ok x) holds = tt
 on_err (Err e) holds = holds
 
 module _ {C : Type 0} where
-  pub length-joined : (pages : List (List C)) (len : ℕ) → IsPaged pages len → length (joined pages) ≡ len
+  pub length-joined : (pages : List (List C)) (len : ℕ) → IsPaged pages len → length (joined_pages pages) ≡ len
   length-joined [] len paged = sym paged
-  length-joined (p ∷ ps) len paged = omega (arith, length-append p (joined ps), length-joined ps (len - 256) paged.1, paged.0)
+  length-joined (p ∷ ps) len paged = omega (arith, length-append p (joined_pages ps), length-joined ps (len - 256) paged.1, paged.0)
 
   -- there are pages for all cells
   pub IsPaged-fits : (pages : List (List C)) (len : ℕ) → IsPaged pages len → len ≤ 256 * length pages
@@ -49,29 +49,29 @@ module _ {C : Type 0} where
   length_page (p ∷ ps) len (suc k) d paged within = omega (arith, length_page ps (len - 256) k d paged.1 (omega (arith, within)))
 
   -- the cell of a number is at its place of its page
-  pub get_or-joined : (pages : List (List C)) (len n : ℕ) (e : List C) (d : C) → IsPaged pages len → n < len → get_or (joined pages) n d ≡ get_or (get_or pages (n / 256) e) (n % 256) d
+  pub get_or-joined : (pages : List (List C)) (len n : ℕ) (e : List C) (d : C) → IsPaged pages len → n < len → get_or (joined_pages pages) n d ≡ get_or (get_or pages (n / 256) e) (n % 256) d
   get_or-joined [] len n e d paged within = absurd (omega (arith, paged))
   get_or-joined (p ∷ ps) len n e d paged within = elim (cases_lt n 256) [
     | inl near ↦
         let at = first n near in
-        rw (at.page, at.place) (get_or_append_left p (joined ps) d n (omega (arith, paged.0)))
+        rw (at.page, at.place) (get_or_append_left p (joined_pages ps) d n (omega (arith, paged.0)))
     | inr far ↦
         let at = further n far in
         let full : length p ≡ 256 = omega (arith, paged.0) in
-        rw (at.page, at.place) (get_or-append_right p (joined ps) 256 n d full far ∙ get_or-joined ps (len - 256) (n - 256) e d paged.1 (omega (arith, within)))
+        rw (at.page, at.place) (get_or-append_right p (joined_pages ps) 256 n d full far ∙ get_or-joined ps (len - 256) (n - 256) e d paged.1 (omega (arith, within)))
   ]
 
   -- a write at a number is one at its place of its page
-  pub set-joined : (pages : List (List C)) (len n : ℕ) (e : List C) (c : C) → IsPaged pages len → n < len → joined (set pages (n / 256) (set (get_or pages (n / 256) e) (n % 256) c)) ≡ set (joined pages) n c
+  pub set-joined : (pages : List (List C)) (len n : ℕ) (e : List C) (c : C) → IsPaged pages len → n < len → joined_pages (set pages (n / 256) (set (get_or pages (n / 256) e) (n % 256) c)) ≡ set (joined_pages pages) n c
   set-joined [] len n e c paged within = absurd (omega (arith, paged))
   set-joined (p ∷ ps) len n e c paged within = elim (cases_lt n 256) [
     | inl near ↦
         let at = first n near in
-        rw (at.page, at.place) (sym (set-append_left p (joined ps) n c (omega (arith, paged.0))))
+        rw (at.page, at.place) (sym (set-append_left p (joined_pages ps) n c (omega (arith, paged.0))))
     | inr far ↦
         let at = further n far in
         let full : length p ≡ 256 = omega (arith, paged.0) in
-        rw (at.page, at.place) (ap (λ (cells : List C). p ++ cells) (set-joined ps (len - 256) (n - 256) e c paged.1 (omega (arith, within))) ∙ sym (set-append_right p (joined ps) 256 n c full far))
+        rw (at.page, at.place) (ap (λ (cells : List C). p ++ cells) (set-joined ps (len - 256) (n - 256) e c paged.1 (omega (arith, within))) ∙ sym (set-append_right p (joined_pages ps) 256 n c full far))
   ]
 
   -- the cells of a page are replaced by as many others
@@ -81,21 +81,21 @@ module _ {C : Type 0} where
   IsPaged-set (p ∷ ps) len (suc k) e page same paged = (paged.0, IsPaged-set ps (len - 256) k e page same paged.1)
 
   -- no cells
-  pub joined_none : (pages : List (List C)) → IsPaged pages 0 → joined pages ≡ []
+  pub joined_none : (pages : List (List C)) → IsPaged pages 0 → joined_pages pages ≡ []
   joined_none [] paged = refl
   joined_none (p ∷ ps) paged = rw (nil_from_length p (omega (arith, paged.0))) (joined_none ps paged.1)
 
   -- a cell after the last
-  pub joined-push : (pages : List (List C)) (len : ℕ) (e : List C) (c : C) → IsPaged pages len → len < 256 * length pages → joined (set pages (len / 256) (get_or pages (len / 256) e ++ c ∷ [])) ≡ joined pages ++ c ∷ []
+  pub joined-push : (pages : List (List C)) (len : ℕ) (e : List C) (c : C) → IsPaged pages len → len < 256 * length pages → joined_pages (set pages (len / 256) (get_or pages (len / 256) e ++ c ∷ [])) ≡ joined_pages pages ++ c ∷ []
   joined-push [] len e c paged room = absurd (omega arith)
   joined-push (p ∷ ps) len e c paged room = elim (cases_lt len 256) [
     | inl near ↦
         let at = first len near in
-        let rest : joined ps ≡ [] = joined_none ps (let past : len - 256 ≡ 0 = omega (arith, near) in rw past at paged.1) in
+        let rest : joined_pages ps ≡ [] = joined_none ps (let past : len - 256 ≡ 0 = omega (arith, near) in rw past at paged.1) in
         rw (at.page, rest, append-nil (p ++ c ∷ []), append-nil p) refl
     | inr far ↦
         let at = further len far in
-        rw at.page (ap (λ (cells : List C). p ++ cells) (joined-push ps (len - 256) e c paged.1 (omega (arith, room))) ∙ sym (append_assoc p (joined ps) (c ∷ [])))
+        rw at.page (ap (λ (cells : List C). p ++ cells) (joined-push ps (len - 256) e c paged.1 (omega (arith, room))) ∙ sym (append_assoc p (joined_pages ps) (c ∷ [])))
   ]
 
   pub IsPaged-push : (pages : List (List C)) (len : ℕ) (e : List C) (c : C) → IsPaged pages len → len < 256 * length pages → IsPaged (set pages (len / 256) (get_or pages (len / 256) e ++ c ∷ [])) (len + 1)
@@ -112,7 +112,7 @@ module _ {C : Type 0} where
   ]
 
   -- pages without cells after the last
-  pub joined-more : (pages : List (List C)) (more : ℕ) → joined (pages ++ replicate more []) ≡ joined pages
+  pub joined-more : (pages : List (List C)) (more : ℕ) → joined_pages (pages ++ replicate more []) ≡ joined_pages pages
   joined-more [] zero = refl
   joined-more [] (suc more) = joined-more [] more
   joined-more (p ∷ ps) more = ap (λ (cells : List C). p ++ cells) (joined-more ps more)
@@ -123,9 +123,9 @@ module _ {C : Type 0} where
   IsPaged-more (p ∷ ps) len more paged = (paged.0, IsPaged-more ps (len - 256) more paged.1)
 
   -- pages that were taken, or weren't
-  pub joined_taken : (b : Bool) (old new : List (List C)) (more : ℕ) → new ≡ (if b then old ++ replicate more [] else old) → joined new ≡ joined old
+  pub joined_taken : (b : Bool) (old new : List (List C)) (more : ℕ) → new ≡ (if b then old ++ replicate more [] else old) → joined_pages new ≡ joined_pages old
   joined_taken true old new more taken = rw taken (joined-more old more)
-  joined_taken false old new more taken = ap joined taken
+  joined_taken false old new more taken = ap joined_pages taken
 
   pub IsPaged_taken : (b : Bool) (old new : List (List C)) (len more : ℕ) → new ≡ (if b then old ++ replicate more [] else old) → IsPaged old len → IsPaged new len
   IsPaged_taken true old new len more taken paged = rw taken (IsPaged-more old len more paged)
@@ -141,14 +141,14 @@ module _ {C : Type 0} where
       let long = length_page pages len (n / 256) page paged (omega (arith, fits, within)) in
       omega (arith, long, ap length found, within)
 
-  pub read_joined : (pages : List (List C)) (len n : ℕ) (page : List C) (x : C) → IsPaged pages len → n < len → page ≡ get_or pages (n / 256) page → x ≡ get_or page (n % 256) x → x ≡ get_or (joined pages) n x
+  pub read_joined : (pages : List (List C)) (len n : ℕ) (page : List C) (x : C) → IsPaged pages len → n < len → page ≡ get_or pages (n / 256) page → x ≡ get_or page (n % 256) x → x ≡ get_or (joined_pages pages) n x
   read_joined pages len n page x paged within found read =
       read ∙ ap (λ (p : List C). get_or p (n % 256) x) found ∙ sym (get_or-joined pages len n page x paged within)
 
   -- a page that was read and written
-  pub joined_written : (pages : List (List C)) (len n : ℕ) (page : List C) (c : C) → IsPaged pages len → n < len → page ≡ get_or pages (n / 256) page → joined (set pages (n / 256) (set page (n % 256) c)) ≡ set (joined pages) n c
+  pub joined_written : (pages : List (List C)) (len n : ℕ) (page : List C) (c : C) → IsPaged pages len → n < len → page ≡ get_or pages (n / 256) page → joined_pages (set pages (n / 256) (set page (n % 256) c)) ≡ set (joined_pages pages) n c
   joined_written pages len n page c paged within found =
-      ap (λ (p : List C). joined (set pages (n / 256) (set p (n % 256) c))) found ∙ set-joined pages len n page c paged within
+      ap (λ (p : List C). joined_pages (set pages (n / 256) (set p (n % 256) c))) found ∙ set-joined pages len n page c paged within
 
   pub IsPaged_written : (pages : List (List C)) (len n : ℕ) (page : List C) (c : C) → IsPaged pages len → page ≡ get_or pages (n / 256) page → IsPaged (set pages (n / 256) (set page (n % 256) c)) len
   IsPaged_written pages len n page c paged found =
@@ -160,9 +160,9 @@ module _ {C : Type 0} where
       let long = length_page pages len (len / 256) page paged (omega (arith, room)) in
       omega (arith, long, ap length found)
 
-  pub joined_pushed : (pages : List (List C)) (len : ℕ) (page : List C) (c : C) → IsPaged pages len → len < 256 * length pages → page ≡ get_or pages (len / 256) page → joined (set pages (len / 256) (page ++ c ∷ [])) ≡ joined pages ++ c ∷ []
+  pub joined_pushed : (pages : List (List C)) (len : ℕ) (page : List C) (c : C) → IsPaged pages len → len < 256 * length pages → page ≡ get_or pages (len / 256) page → joined_pages (set pages (len / 256) (page ++ c ∷ [])) ≡ joined_pages pages ++ c ∷ []
   joined_pushed pages len page c paged room found =
-      ap (λ (p : List C). joined (set pages (len / 256) (p ++ c ∷ []))) found ∙ joined-push pages len page c paged room
+      ap (λ (p : List C). joined_pages (set pages (len / 256) (p ++ c ∷ []))) found ∙ joined-push pages len page c paged room
 
   pub IsPaged_pushed : (pages : List (List C)) (len : ℕ) (page : List C) (c : C) → IsPaged pages len → len < 256 * length pages → page ≡ get_or pages (len / 256) page → IsPaged (set pages (len / 256) (page ++ c ∷ [])) (len + 1)
   IsPaged_pushed pages len page c paged room found =
@@ -195,17 +195,17 @@ module _ {C : Type 0} where
       }
 
   -- the cells from a number on begin with those of its page from its place on
-  pub drop_joined : (pages : List (List C)) (len n : ℕ) (page : List C) → IsPaged pages len → n < len → page ≡ get_or pages (n / 256) page → drop (n % 256) page ≡ take (length (drop (n % 256) page)) (drop n (joined pages))
+  pub drop_joined : (pages : List (List C)) (len n : ℕ) (page : List C) → IsPaged pages len → n < len → page ≡ get_or pages (n / 256) page → drop (n % 256) page ≡ take (length (drop (n % 256) page)) (drop n (joined_pages pages))
   drop_joined [] len n page paged within found = absurd (omega (arith, paged))
   drop_joined (p ∷ ps) len n page paged within found = elim (cases_lt n 256) [
     | inl near ↦
         let at = first n near in
         let here : page ≡ p = rw at.page at found in
-        rw (at.place, here, drop-append-le n p (joined ps) (omega (arith, paged.0, within, near))) (sym (take-append_seam (drop n p) (joined ps)))
+        rw (at.place, here, drop-append-le n p (joined_pages ps) (omega (arith, paged.0, within, near))) (sym (take-append_seam (drop n p) (joined_pages ps)))
     | inr far ↦
         let at = further n far in
         let full : length p ≡ 256 = omega (arith, paged.0) in
         let past : n ≡ length p + (n - 256) = omega (arith, full, far) in
-        let rest : drop n (p ++ joined ps) ≡ drop (n - 256) (joined ps) = ap (λ k. drop k (p ++ joined ps)) past ∙ drop-append-add p (joined ps) (n - 256) in
+        let rest : drop n (p ++ joined_pages ps) ≡ drop (n - 256) (joined_pages ps) = ap (λ k. drop k (p ++ joined_pages ps)) past ∙ drop-append-add p (joined_pages ps) (n - 256) in
         rw (rest, at.place) (drop_joined ps (len - 256) (n - 256) page paged.1 (omega (arith, within)) (rw at.page at found))
   ]

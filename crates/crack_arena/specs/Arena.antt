@@ -104,7 +104,7 @@ abbrev pub vacancy_at : {T : Type 0} → List (Cell T) → ℕ → ℕ
 vacancy_at cells n = cond (nat_lt n (length cells)) (cond (is_none (cell_at cells n).value) 1 0) 0
 
 -- the free list has each cell without a value once, and no others
-pub record IsWhole {T : Type 0} (a : Arena T) : Type 0 where
+pub record IsWholeArena {T : Type 0} (a : Arena T) : Type 0 where
   pub free_once : (n : ℕ) → times n a.free ≡ vacancy_at a.cells n
   pub free_counted : length a.free ≡ count_by (λ c. is_none c.value) a.cells
   pub cells_bounded : length a.cells ≤ MOST_CELLS
@@ -140,20 +140,20 @@ freed_at h a = record {
 }
 
 -- a call that may change an arena
-pub data Call (T : Type 0) : Type 0 where
-  Put : T → Call T
-  Set : Handle → T → Call T
-  Free : Handle → Call T
-  Reserve : ℕ → Call T
+pub data ArenaCall (T : Type 0) : Type 0 where
+  Put : T → ArenaCall T
+  Set : Handle → T → ArenaCall T
+  Free : Handle → ArenaCall T
+  Reserve : ℕ → ArenaCall T
 
 -- the arena after a call, except for its room; a call whose handle reads nothing leaves it unchanged
-abbrev pub after_call : {T : Type 0} → Call T → Arena T → Arena T
+abbrev pub after_call : {T : Type 0} → ArenaCall T → Arena T → Arena T
 after_call (Put v) a = put_in v a
 after_call (Set h v) a = cond (is_some (read a.cells h)) (set_at v h a) a
 after_call (Free h) a = cond (is_some (read a.cells h)) (freed_at h a) a
 after_call (Reserve n) a = a
 
 -- the arena after calls in order, without those that were refused
-abbrev pub after_calls : {T : Type 0} → List (Call T) → Arena T → Arena T
+abbrev pub after_calls : {T : Type 0} → List (ArenaCall T) → Arena T → Arena T
 after_calls [] a = a
 after_calls (c ∷ cs) a = after_calls cs (after_call c a)

@@ -3,10 +3,10 @@
 use Rattle.std.specs.Prelude.{◌≡◌, ℕ, ◌≤◌, List, [], ◌∷◌, length, slice_index_or, sum_by, cond, nat_lt, not, Bool, count_by, ◌-◌, min}
 use Rattle.crack_arena.specs.declared.TheConstants.{MOST_CELLS}
 use Rattle.crack_arena.specs.Arena.{Handle, no_handle, times}
-use Rattle.crack_arena.specs.Links.{is_full, chain}
+use Rattle.crack_arena.specs.Links.{is_taken_word, chain}
 
 abbrev pub is_vacant : Handle → Bool
-is_vacant word = not (is_full word)
+is_vacant word = not (is_taken_word word)
 
 -- 1 for the word of a free cell, otherwise 0
 abbrev pub vacancy : Handle → ℕ

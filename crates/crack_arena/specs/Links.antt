@@ -4,8 +4,8 @@ use Rattle.crack_arena.specs.declared.cells.Cell.{Cell as Stored}
 use Rattle.crack_arena.specs.Arena.{Cell, Handle, no_handle}
 
 -- whether this is the word of a cell that has a value
-abbrev pub is_full : Handle → Bool
-is_full word = word.slot == 16777215
+abbrev pub is_taken_word : Handle → Bool
+is_taken_word word = word.slot == 16777215
 
 -- the number of the free cell after this one: this cell's word stores how many numbers lie between the two, if 0
 -- follows the greatest number
@@ -20,7 +20,7 @@ chain words n (suc count) = n ∷ chain words (next_after words n) count
 module _ {T : Type 0} where
   -- the cell as contracts see it
   abbrev pub cell_of : Stored T → Cell T
-  cell_of s = record { generation = s.word.generation; value = cond (is_full s.word) (Some s.value) None }
+  cell_of s = record { generation = s.word.generation; value = cond (is_taken_word s.word) (Some s.value) None }
 
   -- the cells as contracts see them
   abbrev pub cells_of : List (Stored T) → List (Cell T)

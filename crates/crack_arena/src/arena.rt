@@ -2,8 +2,8 @@
 ghost use Rattle.std.specs.Prelude.{◌≡◌, ◌≢◌, ◌+◌, ◌%◌, ◌<◌, ◌≤◌, List, [], length, take, drop, option_copied};
 ghost use Rattle.std.specs.Prelude.{MatchOption, MatchResult, IfOk, IfErr, OnOk, OnErr, OnSome, is_some, None, Some};
 ghost use Rattle.crack_row.specs.declared.refusal.Refusal.TheVariants.{OutOfMemory};
-ghost use Rattle.crack_arena.specs.Arena.{read, freed, CanPut, handle_for, put_in, set_at, freed_at, cell_at, IsWhole};
-ghost use Rattle.crack_arena.specs.Arena.{IsSpent, KeepsSpent, Call, after_calls};
+ghost use Rattle.crack_arena.specs.Arena.{read, freed, CanPut, handle_for, put_in, set_at, freed_at, cell_at, IsWholeArena};
+ghost use Rattle.crack_arena.specs.Arena.{IsSpent, KeepsSpent, ArenaCall, after_calls};
 ghost use Rattle.crack_arena.specs.declared.TheConstants.{MOST_FREED};
 
 use crate::cell_list::CellList;
@@ -100,7 +100,7 @@ impl<T: Copy> Arena<T> {
 
     /// States the invariants of every arena. Does nothing at run time.
     pub fn facts(&self)
-        ensures { IsWhole self.now }
+        ensures { IsWholeArena self.now }
     {
         let _ = &self.cells;
     }
@@ -108,7 +108,7 @@ impl<T: Copy> Arena<T> {
     /// States that no calls make a spent handle valid again. Does nothing at run time.
     pub fn stays_spent(&self, handle: Handle<T>)
         requires { IsSpent self.now.cells handle }
-        ensures { (calls : List (Call T)) → read (after_calls calls self.now).cells handle ≡ None }
+        ensures { (calls : List (ArenaCall T)) → read (after_calls calls self.now).cells handle ≡ None }
     {
         let _ = &self.cells;
     }
@@ -241,7 +241,7 @@ impl<T: Copy> Arena<T> {
         ensures after { MatchOption result (self.new ≡ self.old) (λ _. self.new ≡ freed_at handle self.old) }
         ensures keeps_spent { KeepsSpent self.old.cells self.new.cells }
         ensures spent { OnSome result (IsSpent self.new.cells handle) }
-        ensures ever_after { OnSome result ((calls : List (Call T)) →
+        ensures ever_after { OnSome result ((calls : List (ArenaCall T)) →
             read (after_calls calls self.new).cells handle ≡ None) }
     {
         let slot = handle.slot() as usize;

@@ -25,13 +25,13 @@ impl<C> Model for CellList<C> {
     ghost use Rattle.crack_arena.specs.Listed.{Listed};
     ghost use Rattle.crack_arena.specs.Codes.{listed_code};
     ghost use Rattle.crack_arena.specs.Keeps.{IsPaged};
-    ghost use Rattle.crack_arena.specs.Pages.{joined};
+    ghost use Rattle.crack_arena.specs.Pages.{joined_pages};
 
     ghost Value = { Listed C };
 
     ghost coded = { listed_code C.code };
 
-    ghost view = { λ l. record { items = joined l.pages.items; room = 256 * length l.pages.items - l.len } };
+    ghost view = { λ l. record { items = joined_pages l.pages.items; room = 256 * length l.pages.items - l.len } };
 
     ghost invariant = { λ l. IsPaged l.pages.items l.len };
 }

@@ -11,7 +11,7 @@ use Rattle.crack_row.specs.declared.InnerBound.{InnerBound}
 use Rattle.crack_column.specs.declared.draining.Doomed.{Doomed}
 use Rattle.crack_column.specs.Column.{Column, StillRemembers, swapped}
 use Rattle.crack_column.specs.Sifts.{one_if_some}
-use Rattle.crack_column.specs.Drains.{turned_back, place_of, without, one_unless_last, drawn, is_under, count_below, doomed_key, doomed_handle, left_by}
+use Rattle.crack_column.specs.Drains.{turned_back, place_of, without, one_unless_last, drawn, is_under, doomed_below, doomed_key, doomed_handle, left_drained}
 use Rattle.crack_column.specs.Inside.{DrainsOnce}
 
 -- one place turned back
@@ -153,7 +153,7 @@ pub record IsDraining (low : ℕ) (high : Option InnerBound) (ds : List Doomed) 
   pub room : new.room ≡ old.room
   pub aside : new.aside ≡ old.aside
   pub remembers : StillRemembers old new
-  pub so_far : first + count_below low ds ≡ from → (start ≡ first + count_below low (drop i ds)) × (left_by low high ds (between from to old.handles) ≡ left_by low high (drop i ds) (between start end new.handles)) × (drawn doomed_key doomed_handle low (λ d. is_under high d.key) ds (between from to old.handles) ≡ pulled + drawn doomed_key doomed_handle low (λ d. is_under high d.key) (drop i ds) (between start end new.handles))
+  pub so_far : first + doomed_below low ds ≡ from → (start ≡ first + doomed_below low (drop i ds)) × (left_drained low high ds (between from to old.handles) ≡ left_drained low high (drop i ds) (between start end new.handles)) × (drawn doomed_key doomed_handle low (λ d. is_under high d.key) ds (between from to old.handles) ≡ pulled + drawn doomed_key doomed_handle low (λ d. is_under high d.key) (drop i ds) (between start end new.handles))
 
 take_less : (a b : ℕ) (xs ys : List Handle) → a ≤ b → take b xs ≡ take b ys → take a xs ≡ take a ys
 take_less a b xs ys few same = sym (take-take a b xs few) ∙ ap (take a) same ∙ take-take a b ys few
@@ -183,11 +183,11 @@ IsDraining-next low high ds first from to old new now start end pulled i start' 
       let rest : List Doomed = drop (i + 1) ds in
       let next : drop i ds ≡ d ∷ rest = drop_more ds i d inside ∙ ap (λ e. e ∷ rest) is in
       let turns : ℕ = cond (nat_lt d.key low) 1 0 in
-      let starts : start ≡ first + (turns + count_below low rest) = was.0 ∙ ap (λ es. first + count_below low es) next in
+      let starts : start ≡ first + (turns + doomed_below low rest) = was.0 ∙ ap (λ es. first + doomed_below low es) next in
       let one = once (λ under. let counted : turns ≡ 1 = rw (lt-ltb d.key low under) refl in omega (arith, starts, counted)) in
       let rows : List Handle = between start end new.handles in (
         omega (arith, starts, one.turned),
-        was.1 ∙ ap (λ es. left_by low high es rows) next ∙ ap (left_by low high rest) (sym one.piece),
+        was.1 ∙ ap (λ es. left_drained low high es rows) next ∙ ap (left_drained low high rest) (sym one.piece),
         was.2 ∙ ap (λ es. pulled + drawn doomed_key doomed_handle low (λ e. is_under high e.key) es rows) next ∙ rw (← one.piece, ← one.pulled_is) (omega arith),
       );
 }

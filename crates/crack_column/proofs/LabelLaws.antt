@@ -15,7 +15,7 @@ use Rattle.crack_column.specs.declared.tag.Tag.{Tag}
 use Rattle.crack_column.specs.Column.{IsDividedAt}
 use Rattle.crack_column.specs.Places.{tag_handle}
 use Rattle.crack_column.specs.Keeps.{remembered_key, unread_in}
-use Rattle.crack_column.specs.Inside.{no_tag, label_of, label_handle, shifted, turned, forgotten, Read, Turns}
+use Rattle.crack_column.specs.Inside.{no_tag, label_of, label_handle, shifted, turned, forgotten, Read, TurnsTags}
 use Rattle.crack_column.specs.Labels.{tag_of, tags_of}
 use Rattle.crack_column.proofs.Passes.{amount_borne}
 
@@ -136,7 +136,7 @@ part_put from to n xs new order within whole long =
 -- a stretch of both lists was cracked
 pub Turns-parts : (cells : List (Cell Row)) (bound from to : ℕ) (ls ls' : List Label) (ps ps' : List Payload) (n m place learned : ℕ) → from ≤ to → to ≤ length ls → length ps ≡ length ls → n ≡ length ls → m ≡ length ps → length ls' ≡ to - from → length ps' ≡ to - from →
     IsPermutation (map forgotten (tags_of (between from to ls) (between from to ps))) (map forgotten (tags_of ls' ps')) → All (Read cells) (tags_of ls' ps') → IsDividedAt bound (map remembered_key (tags_of ls' ps')) place → unread_in (tags_of ls' ps') + learned ≡ unread_in (tags_of (between from to ls) (between from to ps)) →
-    Turns cells bound from to (tags_of ls ps)
+    TurnsTags cells bound from to (tags_of ls ps)
     (tags_of (take n ((take from ls ++ (ls' ++ post_of from (to - from) ls)) ++ drop (length (take from ls ++ (ls' ++ post_of from (to - from) ls))) ls))
     (take m ((take from ps ++ (ps' ++ post_of from (to - from) ps)) ++ drop (length (take from ps ++ (ps' ++ post_of from (to - from) ps))) ps)))
     (from + place) learned

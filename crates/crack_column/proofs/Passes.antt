@@ -18,7 +18,7 @@ use Rattle.crack_arena.specs.Memories.{Memory, memory_at}
 use Rattle.crack_column.specs.Column.{IsDividedAt}
 use Rattle.crack_column.specs.Places.{tag_handle}
 use Rattle.crack_column.specs.Keeps.{remembered_key}
-use Rattle.crack_column.specs.Inside.{no_tag, forgotten, shifted, Knows, Read}
+use Rattle.crack_column.specs.Inside.{no_tag, forgotten, shifted, KnowsRow, Read}
 
 -- the tags before the gap are divided
 pub record IsSplit (bound : ℕ) (tags : List Tag) (low gap : ℕ) : Type 0 where
@@ -134,7 +134,7 @@ pub record IsLearned (cells : List (Cell Row)) (tags tags' : List Tag) (learned 
   pub few : learned ≤ i
   pub fewer : times unknown (map remembered_key tags') + learned ≡ times unknown (map remembered_key tags)
   pub kept : map forgotten tags' ≡ map forgotten tags
-  pub known : All (Knows cells) tags'
+  pub known : All (KnowsRow cells) tags'
   pub read : (k : ℕ) → k < i → k < length tags' → Read cells (get_or tags' k no_tag)
 
 -- the i-th tag is read
@@ -185,7 +185,7 @@ pub learned_all : (cells : List (Cell Row)) (ts ts' : List Tag) (n i : ℕ) → 
 learned_all cells ts ts' n i past so_far = λ k d l. rw (get_or_default ts' k d no_tag l) (so_far.read k (omega arith) l)
 
 -- if each row is known, each tag has its row's key and payload
-pub all_read : (cells : List (Cell Row)) (ts : List Tag) → times unknown (map remembered_key ts) ≡ 0 → All (Knows cells) ts → All (Read cells) ts
+pub all_read : (cells : List (Cell Row)) (ts : List Tag) → times unknown (map remembered_key ts) ≡ 0 → All (KnowsRow cells) ts → All (Read cells) ts
 all_read cells ts none known = λ k d h. elim (known k d h) [
   | inl u ↦ absurd (omega (arith, none, times_map_at unknown remembered_key ts k d h u))
   | inr r ↦ r

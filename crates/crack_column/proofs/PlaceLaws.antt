@@ -18,7 +18,7 @@ use Rattle.crack_column.specs.Column.{Aside, no_aside, Cracks}
 use Rattle.crack_column.proofs.Cracking.{Replaced, replaced}
 use Rattle.crack_column.specs.Places.{memory_of, tag_handle, handles_in, remembered_in, aside_of, aside_in}
 use Rattle.crack_column.specs.Keeps.{remembered_key, unread_in}
-use Rattle.crack_column.specs.Inside.{no_tag, put_at, Knows, Turns, forgotten}
+use Rattle.crack_column.specs.Inside.{no_tag, tag_put_at, KnowsRow, TurnsTags, forgotten}
 
 -- a column's handles, and what it remembers, place by place
 pub length-in : (ts : List Tag) (len : ℕ) → len ≤ length ts → length (handles_in ts len) ≡ len
@@ -100,23 +100,23 @@ module _ (ts : List Tag) (len : ℕ) (t : Tag) (fits : len ≤ length ts) where
   front : length (take len ts) ≡ len
   front = length-take-le len ts fits
 
-  pub length-put : length (put_at ts len t) ≡ len + 1 + (length ts - (len + 1))
+  pub length-put : length (tag_put_at ts len t) ≡ len + 1 + (length ts - (len + 1))
   length-put = omega (arith, front, length-append (take len ts) (t ∷ drop (len + 1) ts), length-drop (len + 1) ts)
 
-  pub first-put : take len (put_at ts len t) ≡ take len ts
+  pub first-put : take len (tag_put_at ts len t) ≡ take len ts
   first-put = take_at (take len ts) (t ∷ drop (len + 1) ts) len front
 
-  pub aside-put : aside_in (put_at ts len t) len ≡ aside_of t ∷ drop 1 (aside_in ts len)
+  pub aside-put : aside_in (tag_put_at ts len t) len ≡ aside_of t ∷ drop 1 (aside_in ts len)
   aside-put =
       ap (λ (xs : List Tag). map aside_of xs) (drop_at (take len ts) (t ∷ drop (len + 1) ts) len front) ∙ ap (λ (xs : List Aside). aside_of t ∷ xs) (sym (aside-longer ts len))
 
 -- and it is set there, or it is the last
-pub set-is_put : (ts : List Tag) (place : ℕ) (t : Tag) → place < length ts → set ts place t ≡ put_at ts place t
+pub set-is_put : (ts : List Tag) (place : ℕ) (t : Tag) → place < length ts → set ts place t ≡ tag_put_at ts place t
 set-is_put ts place t inside =
     let split : ts ≡ take place ts ++ get_or ts place no_tag ∷ drop (place + 1) ts = sym (take-append-drop place ts) ∙ ap (λ (xs : List Tag). take place ts ++ xs) (drop_more ts place no_tag inside) in
     ap (λ (xs : List Tag). set xs place t) split ∙ set_at (take place ts) (get_or ts place no_tag) (drop (place + 1) ts) t place (length-take-le place ts (omega arith))
 
-pub push-is_put : (ts : List Tag) (place : ℕ) (t : Tag) → place ≡ length ts → ts ++ t ∷ [] ≡ put_at ts place t
+pub push-is_put : (ts : List Tag) (place : ℕ) (t : Tag) → place ≡ length ts → ts ++ t ∷ [] ≡ tag_put_at ts place t
 push-is_put ts place t last =
     sym (rw (take_all place ts (omega arith), drop_all (place + 1) ts (omega arith)) refl)
 
@@ -234,7 +234,7 @@ module _ (from to : ℕ) (ts ts' : List Tag) (learned len : ℕ) (fits : len ≤
       omega (arith, old, new, times-append unknown (take from ks) (map remembered_key reorders.stretch), reorders.fewer)
 
 -- a stretch of the column was turned
-module _ (cells : List (Cell Row)) (bound from to : ℕ) (ts ts' : List Tag) (place learned len : ℕ) (fits : len ≤ length ts) (order : from ≤ to) (end : to ≤ len) (turned : Turns cells bound from to ts ts' place learned) where
+module _ (cells : List (Cell Row)) (bound from to : ℕ) (ts ts' : List Tag) (place learned len : ℕ) (fits : len ≤ length ts) (order : from ≤ to) (end : to ≤ len) (turned : TurnsTags cells bound from to ts ts' place learned) where
   abbrev reordered : Reorders from to ts ts' learned
   reordered = record { stretch = turned.stretch; are = turned.are; kept = turned.kept; fewer = turned.fewer }
 
@@ -276,10 +276,10 @@ module _ (cells : List (Cell Row)) (bound from to : ℕ) (ts ts' : List Tag) (pl
   }
 
 -- what the column remembers, its tags know
-pub Knows-Remembers : (cells : List (Cell Row)) (ts : List Tag) (len from to : ℕ) → len ≤ length ts → to ≤ len → Remembers cells (handles_in ts len) (remembered_in ts len) → All (Knows cells) (between from to ts)
+pub Knows-Remembers : (cells : List (Cell Row)) (ts : List Tag) (len from to : ℕ) → len ≤ length ts → to ≤ len → Remembers cells (handles_in ts len) (remembered_in ts len) → All (KnowsRow cells) (between from to ts)
 Knows-Remembers cells ts len from to within end remembers = λ k d l.
     let inside : from + k < to = omega (arith, length-between ts from to (omega arith)) in
-    let know : Knows cells (get_or ts (from + k) no_tag) = rw (memory_in ts len (from + k) nothing within (omega arith), handle_in ts len (from + k) no_handle within (omega arith)) at (remembers.right (from + k) no_handle (omega (arith, length-in ts len within))) in
+    let know : KnowsRow cells (get_or ts (from + k) no_tag) = rw (memory_in ts len (from + k) nothing within (omega arith), handle_in ts len (from + k) no_handle within (omega arith)) at (remembers.right (from + k) no_handle (omega (arith, length-in ts len within))) in
     rw (get_or-between ts from to k d inside, get_or_default ts (from + k) d no_tag (omega arith)) know
 
 -- the handle that is at a place

@@ -19,7 +19,7 @@ use Rattle.crack_column.specs.declared.tag.Tag.{Tag}
 use Rattle.crack_arena.specs.Memories.{Memory, nothing, memory_at, Remembers}
 use Rattle.crack_column.specs.Places.{memory_of, tag_handle, handles_in, remembered_in}
 use Rattle.crack_column.specs.Keeps.{remembered_key, unread_in}
-use Rattle.crack_column.specs.Inside.{no_tag, forgotten, Knows, Read, SiftsTags}
+use Rattle.crack_column.specs.Inside.{no_tag, forgotten, KnowsRow, Read, SiftsTags}
 use Rattle.crack_column.specs.Labels.{tags_of}
 use Rattle.crack_column.specs.Sifts.{turned_once, one_if_some, below_bound, queued, made_way}
 use Rattle.crack_column.proofs.LabelLaws.{between-tags_of, replaced-tags_of, part_put}
@@ -191,9 +191,9 @@ module _ (bound start from to : ℕ) (ts ts' : List Tag) (below moved len : ℕ)
   Remembers-sifted cells remembers =
       let there = standing start to ts ts' 0 len fits (omega arith) end reordered in
       let within : len ≤ length ts' = omega (arith, there.len, fits) in
-      let known = All-permutation (Knows cells) (between start to ts) now permuted (Knows-Remembers cells ts len start to fits end remembers) in
+      let known = All-permutation (KnowsRow cells) (between start to ts) now permuted (Knows-Remembers cells ts len start to fits end remembers) in
       let long : length now ≡ to - start = length_permutation (between start to ts) now permuted ∙ length-between ts start to (omega (arith, fits)) in
-      let old : (k : ℕ) → k < len → Knows cells (get_or ts k no_tag) = λ k l. rw (memory_in ts len k nothing fits l, handle_in ts len k no_handle fits l) at (remembers.right k no_handle (omega (arith, length-in ts len fits))) in
+      let old : (k : ℕ) → k < len → KnowsRow cells (get_or ts k no_tag) = λ k l. rw (memory_in ts len k nothing fits l, handle_in ts len k no_handle fits l) at (remembers.right k no_handle (omega (arith, length-in ts len fits))) in
       record {
         beside = length-remembered_in ts' len within ∙ sym (length-in ts' len within);
         right = λ k d l.

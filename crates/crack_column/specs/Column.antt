@@ -70,7 +70,8 @@ swapped d one other xs = slice_set (slice_set xs one (slice_index_or xs other d)
 abbrev pub StillRemembers : Column → Column → Type 0
 StillRemembers old new = (cells : List (Cell Row)) → Remembers cells old.handles old.remembered → Remembers cells new.handles new.remembered
 
--- as `StillRemembers`, if this memory agrees with the handle's row
+-- with any cells, if the old column remembers its rows correctly, and this memory is right for the row of this
+-- handle, then the new column remembers its rows correctly
 abbrev pub StillRemembersWith : Handle → Memory → Column → Column → Type 0
 StillRemembersWith h m old new = (cells : List (Cell Row)) → Remembers cells old.handles old.remembered → Agrees cells h m → Remembers cells new.handles new.remembered
 

@@ -51,9 +51,9 @@ is_under None key = true
 is_under (Some bound) key = nat_lt key bound.0
 
 -- the number of doomed rows below a bound
-abbrev pub count_below : ℕ → List Doomed → ℕ
-count_below bound [] = 0
-count_below bound (d ∷ ds) = cond (nat_lt d.key bound) 1 0 + count_below bound ds
+abbrev pub doomed_below : ℕ → List Doomed → ℕ
+doomed_below bound [] = 0
+doomed_below bound (d ∷ ds) = cond (nat_lt d.key bound) 1 0 + doomed_below bound ds
 
 -- the key of a doomed row
 abbrev pub doomed_key : Doomed → ℕ
@@ -64,14 +64,14 @@ abbrev pub doomed_handle : Doomed → Handle
 doomed_handle d = d.handle
 
 -- a piece with these bounds, after the pulls of doomed rows
-abbrev pub left_by : ℕ → Option InnerBound → List Doomed → List Handle → List Handle
-left_by low high ds rows = drained doomed_key doomed_handle low (λ d. is_under high d.key) ds rows
+abbrev pub left_drained : ℕ → Option InnerBound → List Doomed → List Handle → List Handle
+left_drained low high ds rows = drained doomed_key doomed_handle low (λ d. is_under high d.key) ds rows
 
 -- doomed rows were pulled out of the piece from `from` up to `to`: the rest of it is from `start` up to `end`, its
 -- rows moved `pulled` times, and the places before `start` and from `to` on are unchanged
 pub record Drains (low : ℕ) (high : Option InnerBound) (ds : List Doomed) (start from to : ℕ) (old new : Column) (end pulled : ℕ) : Type 0 where
   pub front : take start new.handles ≡ take start old.handles
-  pub piece : between start end new.handles ≡ left_by low high ds (between from to old.handles)
+  pub piece : between start end new.handles ≡ left_drained low high ds (between from to old.handles)
   pub behind : drop to new.handles ≡ drop to old.handles
-  pub end_is : end ≡ start + length (left_by low high ds (between from to old.handles))
+  pub end_is : end ≡ start + length (left_drained low high ds (between from to old.handles))
   pub pulled_is : pulled ≡ drawn doomed_key doomed_handle low (λ d. is_under high d.key) ds (between from to old.handles)

@@ -17,8 +17,8 @@ use Rattle.crack_column.specs.declared.draining.Doomed.{Doomed}
 use Rattle.crack_row.specs.declared.InnerBound.{InnerBound}
 
 -- what the tag remembers agrees with its handle's row
-abbrev pub Knows : List (Cell Row) → Tag → Type 0
-Knows cells t = Agrees cells (tag_handle t) (memory_of t)
+abbrev pub KnowsRow : List (Cell Row) → Tag → Type 0
+KnowsRow cells t = Agrees cells (tag_handle t) (memory_of t)
 
 -- the tag has the key and the payload of its handle's row
 abbrev pub Read : List (Cell Row) → Tag → Type 0
@@ -36,8 +36,8 @@ abbrev pub no_tag : Tag
 no_tag = record { key = 0; payload = no_payload; handle = no_handle }
 
 -- the tag is at the place, and the others are where they were; at the end of the list it comes after them
-abbrev pub put_at : List Tag → ℕ → Tag → List Tag
-put_at ts place t = take place ts ++ t ∷ drop (place + 1) ts
+abbrev pub tag_put_at : List Tag → ℕ → Tag → List Tag
+tag_put_at ts place t = take place ts ++ t ∷ drop (place + 1) ts
 
 -- the tag at `low` moves into the gap, and the new tag takes its place
 abbrev pub shifted : List Tag → ℕ → ℕ → Tag → List Tag
@@ -51,7 +51,7 @@ turned ts gap upper place t =
 
 -- the tags from `from` up to `to` are reordered so that the bound divides them at `place`, and their rows are read,
 -- `learned` of which were unknown; all other tags are unchanged
-pub record Turns (cells : List (Cell Row)) (bound from to : ℕ) (tags tags' : List Tag) (place learned : ℕ) : Type 0 where
+pub record TurnsTags (cells : List (Cell Row)) (bound from to : ℕ) (tags tags' : List Tag) (place learned : ℕ) : Type 0 where
   pub stretch : List Tag
   pub are : tags' ≡ take from tags ++ stretch ++ drop to tags
   pub kept : IsPermutation (map forgotten (between from to tags)) (map forgotten stretch)

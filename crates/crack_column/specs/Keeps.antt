@@ -14,7 +14,7 @@ abbrev pub unread_in : List Tag → ℕ
 unread_in tags = times unknown (map remembered_key tags)
 
 -- the first `len` tags are the column's, and `unread` of them have unknown rows
-pub record IsKept (tags : List Tag) (len unread : ℕ) : Type 0 where
+pub record IsSoundColumn (tags : List Tag) (len unread : ℕ) : Type 0 where
   pub within : len ≤ length tags
   pub few : length tags ≤ 2 ^ 32
   pub counted : unread_in (take len tags) ≡ unread

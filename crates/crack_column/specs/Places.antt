@@ -31,5 +31,5 @@ aside_in tags len = map aside_of (drop len tags)
 
 -- how many more handles fit without memory in a column with this many places, given the number of tags and how many
 -- fit
-abbrev pub room_in : ℕ → ℕ → ℕ → ℕ
-room_in tags capacity len = tags - len + min (2 ^ 32 - tags) (capacity - tags)
+abbrev pub room_after : ℕ → ℕ → ℕ → ℕ
+room_after tags capacity len = tags - len + min (2 ^ 32 - tags) (capacity - tags)

@@ -34,19 +34,19 @@ pub struct CrackerColumn {
 impl Model for CrackerColumn {
     ghost use Rattle.std.specs.Prelude.{length};
     ghost use Rattle.crack_column.specs.Column.{Column};
-    ghost use Rattle.crack_column.specs.Keeps.{IsKept};
-    ghost use Rattle.crack_column.specs.Places.{handles_in, remembered_in, room_in, aside_in};
+    ghost use Rattle.crack_column.specs.Keeps.{IsSoundColumn};
+    ghost use Rattle.crack_column.specs.Places.{handles_in, remembered_in, room_after, aside_in};
 
     ghost Value = { Column };
 
     ghost view = { λ c. record {
       handles = handles_in c.tags.items c.len;
       remembered = remembered_in c.tags.items c.len;
-      room = room_in (length c.tags.items) c.tags.capacity c.len;
+      room = room_after (length c.tags.items) c.tags.capacity c.len;
       aside = aside_in c.tags.items c.len;
     } };
 
-    ghost invariant = { λ c. IsKept c.tags.items c.len c.unread };
+    ghost invariant = { λ c. IsSoundColumn c.tags.items c.len c.unread };
 }
 
 impl CrackerColumn {

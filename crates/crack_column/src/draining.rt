@@ -3,7 +3,7 @@ ghost use Rattle.std.specs.Prelude.{◌≡◌, ◌-◌, ◌<◌, ◌≤◌, leng
 ghost use Rattle.crack_arena.specs.Arena.{no_handle};
 ghost use Rattle.crack_arena.specs.Memories.{nothing};
 ghost use Rattle.crack_column.specs.Column.{StillRemembers, swapped};
-ghost use Rattle.crack_column.specs.Drains.{is_under, count_below, Drains};
+ghost use Rattle.crack_column.specs.Drains.{is_under, doomed_below, Drains};
 ghost use Rattle.crack_column.specs.Inside.{DrainsOnce};
 
 use crate::CrackerColumn;
@@ -36,7 +36,7 @@ impl CrackerColumn {
         requires gap { gap ≤ from }
         requires order { from ≤ to }
         requires within { to ≤ length self.old.handles }
-        ensures drains { count_below low doomed.now ≡ gap → Drains low high doomed.now (from - gap) from to self.old
+        ensures drains { doomed_below low doomed.now ≡ gap → Drains low high doomed.now (from - gap) from to self.old
             self.new result.0 result.1 }
         ensures end { (from - gap ≤ result.0) × (result.0 ≤ to) }
         ensures few { result.1 ≤ length doomed.now }

@@ -23,7 +23,7 @@ pub struct HeldColumn {
 impl Model for HeldColumn {
     ghost use Rattle.std.specs.Prelude.{length};
     ghost use Rattle.crack_column.specs.Column.{Column};
-    ghost use Rattle.crack_column.specs.Places.{handles_in, remembered_in, room_in, aside_in};
+    ghost use Rattle.crack_column.specs.Places.{handles_in, remembered_in, room_after, aside_in};
     ghost use Rattle.crack_column.specs.Keeps.{IsHeld};
     ghost use Rattle.crack_column.specs.Held.{tags_with};
 
@@ -32,7 +32,7 @@ impl Model for HeldColumn {
     ghost view = { λ c. record {
       handles = handles_in (tags_with c.tags.items c.len c.hand) c.len;
       remembered = remembered_in (tags_with c.tags.items c.len c.hand) c.len;
-      room = room_in (length c.tags.items) c.tags.capacity c.len;
+      room = room_after (length c.tags.items) c.tags.capacity c.len;
       aside = aside_in (tags_with c.tags.items c.len c.hand) c.len;
     } };
 

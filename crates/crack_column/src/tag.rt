@@ -12,7 +12,7 @@ ghost use Rattle.crack_column.specs.Keeps.{remembered_key, unread_in};
 ghost use Rattle.crack_column.specs.Places.{memory_of, tag_handle};
 ghost use Rattle.crack_column.specs.Labels.{tag_of, tags_of};
 ghost use Rattle.crack_column.specs.Sifts.{below_bound, queued, made_way};
-ghost use Rattle.crack_column.specs.Inside.{tag_for, label_of, label_handle, forgotten, shifted, turned, Knows, Read};
+ghost use Rattle.crack_column.specs.Inside.{tag_for, label_of, label_handle, forgotten, shifted, turned, KnowsRow, Read};
 
 use crack_arena::{Arena, Handle, Remembered, UNKNOWN_KEY, amount_of, key_of};
 use crack_row::{InnerBound, Key, KeyNumber, Payload, Row};
@@ -25,7 +25,7 @@ pub(crate) struct Tag {
     pub(crate) handle: Handle<Row>,
 }
 
-/// A tag without its payload. Takes 16 bytes.
+/// A tag without its payload: the key, the slot of the row's handle, and the ticket. Takes 16 bytes.
 #[derive(Clone, Copy)]
 pub(crate) struct Label {
     pub(crate) key: KeyNumber,
@@ -84,7 +84,7 @@ impl Tag {
 
     /// The key of the row, read from the arena only if the row is unknown.
     pub(crate) fn key(&self, arena: &Arena<Row>) -> Key
-        requires { Knows arena.now.cells self.now }
+        requires { KnowsRow arena.now.cells self.now }
         ensures { result.0 ≡ key_at arena.now.cells (tag_handle self.now) }
     {
         if self.key == UNKNOWN_KEY {
@@ -95,7 +95,7 @@ impl Tag {
 
     /// The amount that the row adds to a sum. The arena is read only if the row is unknown.
     fn amount(&self, arena: &Arena<Row>) -> i128
-        requires { Knows arena.now.cells self.now }
+        requires { KnowsRow arena.now.cells self.now }
         ensures value { result ≡ amount_at arena.now.cells (tag_handle self.now) }
         ensures least { neg_ℤ (pos farthest_amount) ≤ℤ result }
         ensures most { result ≤ℤ pos farthest_amount }
@@ -117,7 +117,7 @@ pub(crate) fn crack(
     arena: &Arena<Row>,
 ) -> (usize, usize)
     requires beside { length payloads.old ≡ length labels.old }
-    requires known { All (Knows arena.now.cells) (tags_of labels.old payloads.old) }
+    requires known { All (KnowsRow arena.now.cells) (tags_of labels.old payloads.old) }
     requires unread { unread_in (tags_of labels.old payloads.old) ≤ unread }
     ensures kept { IsPermutation (map forgotten (tags_of labels.old payloads.old)) (map forgotten
         (tags_of labels.new payloads.new)) }
@@ -146,7 +146,7 @@ pub(crate) fn crack_three(
 ) -> (usize, usize, usize)
     requires beside { length payloads.old ≡ length labels.old }
     requires bounds { low.0 ≤ high.0 }
-    requires known { All (Knows arena.now.cells) (tags_of labels.old payloads.old) }
+    requires known { All (KnowsRow arena.now.cells) (tags_of labels.old payloads.old) }
     requires unread { unread_in (tags_of labels.old payloads.old) ≤ unread }
     ensures kept { IsPermutation (map forgotten (tags_of labels.old payloads.old)) (map forgotten
         (tags_of labels.new payloads.new)) }
@@ -169,7 +169,7 @@ pub(crate) fn crack_three(
 /// Reads each unknown row. Returns how many became known.
 fn learn(labels: &mut [Label], payloads: &mut [Payload], arena: &Arena<Row>) -> usize
     requires beside { length payloads.old ≡ length labels.old }
-    requires known { All (Knows arena.now.cells) (tags_of labels.old payloads.old) }
+    requires known { All (KnowsRow arena.now.cells) (tags_of labels.old payloads.old) }
     ensures kept { map forgotten (tags_of labels.new payloads.new) ≡ map forgotten (tags_of labels.old payloads.old) }
     ensures read { All (Read arena.now.cells) (tags_of labels.new payloads.new) }
     ensures fewer { unread_in (tags_of labels.new payloads.new) + result ≡ unread_in (tags_of labels.old payloads.old) }
@@ -345,7 +345,7 @@ fn place_of(is_low: bool, middle: usize, upper: usize) -> usize
 pub(crate) fn sum(labels: &[Label], payloads: &[Payload], unread: usize, arena: &Arena<Row>) -> i128
     requires beside { length payloads.now ≡ length labels.now }
     requires few { length labels.now ≤ MOST_PLACES }
-    requires known { All (Knows arena.now.cells) (tags_of labels.now payloads.now) }
+    requires known { All (KnowsRow arena.now.cells) (tags_of labels.now payloads.now) }
     requires unread { unread_in (tags_of labels.now payloads.now) ≤ unread }
     ensures value { result ≡ total_by (λ t. amount_at arena.now.cells (tag_handle t))
         (tags_of labels.now payloads.now) }
@@ -378,7 +378,7 @@ fn sum_remembered(payloads: &[Payload]) -> i128
 fn sum_read(labels: &[Label], payloads: &[Payload], arena: &Arena<Row>) -> i128
     requires beside { length payloads.now ≡ length labels.now }
     requires few { length labels.now ≤ MOST_PLACES }
-    requires known { All (Knows arena.now.cells) (tags_of labels.now payloads.now) }
+    requires known { All (KnowsRow arena.now.cells) (tags_of labels.now payloads.now) }
     ensures value { result ≡ total_by (λ t. amount_at arena.now.cells (tag_handle t))
         (tags_of labels.now payloads.now) }
     ensures least { neg_ℤ (pos (length labels.now * farthest_amount)) ≤ℤ result }

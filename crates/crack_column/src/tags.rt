@@ -8,7 +8,7 @@ ghost use Rattle.crack_row.specs.Rows.{total_by, farthest_amount};
 ghost use Rattle.crack_column.specs.declared.TheConstants.{MOST_PLACES};
 ghost use Rattle.crack_column.specs.Keeps.{unread_in};
 ghost use Rattle.crack_column.specs.Places.{tag_handle};
-ghost use Rattle.crack_column.specs.Inside.{no_tag, label_of, put_at, Knows, Turns, SiftsTags};
+ghost use Rattle.crack_column.specs.Inside.{no_tag, label_of, tag_put_at, KnowsRow, TurnsTags, SiftsTags};
 
 use crate::tag::{self, Label, Tag};
 use crack_arena::{Arena, Handle};
@@ -70,7 +70,7 @@ impl Tags {
         self.labels[place].with_payload(self.payloads[place])
     }
 
-    /// The label at the place.
+    /// The label at the place: its tag without the payload.
     #[inline(always)]
     pub(crate) fn label(&self, place: usize) -> Label
         requires { place < length self.now.items }
@@ -119,7 +119,7 @@ impl Tags {
     pub(crate) fn put(&mut self, place: usize, tag: Tag)
         requires within { place ≤ length self.old.items }
         requires room { place ≡ length self.old.items → place < self.old.capacity }
-        ensures { self.new ≡ record self.old { items = put_at self.old.items place tag } }
+        ensures { self.new ≡ record self.old { items = tag_put_at self.old.items place tag } }
     {
         if place < self.len() {
             self.set(place, tag);
@@ -140,9 +140,9 @@ impl Tags {
     ) -> (usize, usize)
         requires order { from ≤ to }
         requires within { to ≤ length self.old.items }
-        requires known { All (Knows arena.now.cells) (between from to self.old.items) }
+        requires known { All (KnowsRow arena.now.cells) (between from to self.old.items) }
         requires unread { unread_in (between from to self.old.items) ≤ unread }
-        ensures turned { Turns arena.now.cells bound.0 from to self.old.items self.new.items
+        ensures turned { TurnsTags arena.now.cells bound.0 from to self.old.items self.new.items
             result.0 result.1 }
         ensures capacity { self.new.capacity ≡ self.old.capacity }
     {
@@ -170,11 +170,11 @@ impl Tags {
         requires order { from ≤ to }
         requires within { to ≤ length self.old.items }
         requires bounds { low.0 ≤ high.0 }
-        requires known { All (Knows arena.now.cells) (between from to self.old.items) }
+        requires known { All (KnowsRow arena.now.cells) (between from to self.old.items) }
         requires unread { unread_in (between from to self.old.items) ≤ unread }
-        ensures low { Turns arena.now.cells low.0 from to self.old.items self.new.items
+        ensures low { TurnsTags arena.now.cells low.0 from to self.old.items self.new.items
             result.0.0 result.1 }
-        ensures high { Turns arena.now.cells high.0 from to self.old.items self.new.items
+        ensures high { TurnsTags arena.now.cells high.0 from to self.old.items self.new.items
             result.0.1 result.1 }
         ensures order { result.0.0 ≤ result.0.1 }
         ensures capacity { self.new.capacity ≡ self.old.capacity }
@@ -224,7 +224,7 @@ impl Tags {
         requires order { from ≤ to }
         requires within { to ≤ length self.now.items }
         requires few { to - from ≤ MOST_PLACES }
-        requires known { All (Knows arena.now.cells) (between from to self.now.items) }
+        requires known { All (KnowsRow arena.now.cells) (between from to self.now.items) }
         requires unread { unread_in (between from to self.now.items) ≤ unread }
         ensures value { result ≡ total_by (λ t. amount_at arena.now.cells (tag_handle t))
             (between from to self.now.items) }

@@ -90,11 +90,11 @@ bit_text bits number = if has_bit bits number then field_text number else []
 abbrev pub refused_text : ℕ → List ℕ → List ℕ
 refused_text code carried = codes "refused " ++ decimal code ++ carried ++ codes "\n"
 
--- `K V` after `insert`
+-- the meaning of the words after `insert`: `K V`, a key and a payload
 abbrev pub insert_of : List (List ℕ) → Reading
 insert_of arguments = made (λ n. Insert n.0 n.1) (two_of key_read payload_read arguments)
 
--- `P.S` after `delete`
+-- the meaning of the words after `delete`: `P.S`, a row number
 abbrev pub delete_of : List (List ℕ) → Reading
 delete_of arguments = made Delete (row_number_of (only_word arguments))
 
@@ -102,7 +102,7 @@ delete_of arguments = made Delete (row_number_of (only_word arguments))
 abbrev pub update_from : Option RowNo → Option (Key × Payload) → Reading
 update_from row pair = made (λ u. Update u.0 u.1.0 u.1.1) (option_zip row pair)
 
--- `P.S K V` after `update`
+-- the meaning of the words after `update`: `P.S K V`, a row number, a key and a payload
 abbrev pub update_of : List (List ℕ) → Reading
 update_of arguments = made (λ u. Update u.0 u.1.0 u.1.1) (option_zip (row_number_of (slice_index_or arguments 0 [])) (two_of key_read payload_read (drop 1 arguments)))
 
@@ -111,26 +111,26 @@ abbrev pub range_from : Option (ℕ × ℕ) → Result Range Refusal
 range_from (Some (low, high)) = if nat_le low high && nat_le high GREATEST_BOUND then Ok (record { low = low; high = high }) else Err BadRange
 range_from None = Err BadStatement
 
--- `P` after `layout`
+-- the meaning of the words after `layout`: `P`, the number of a partition
 abbrev pub layout_of : List (List ℕ) → Reading
 layout_of arguments = made AsksLayout (number_up_to GREATEST_PART (only_word arguments))
 
--- `P` after `checkpoint`
+-- the meaning of the words after `checkpoint`: `P`, the number of a partition
 abbrev pub checkpoint_of : List (List ℕ) → Reading
 checkpoint_of arguments = made Checkpoint (number_up_to GREATEST_PART (only_word arguments))
 
--- nothing or `P` after `stats`
+-- the meaning of the words after `stats`: no word, or `P`, the number of a partition
 abbrev pub watch_of : List (List ℕ) → Reading
 watch_of arguments = if length arguments == 0 then Ok Watch else made WatchPart (number_up_to GREATEST_PART (only_word arguments))
 
--- `NAME` after `policy`
+-- the meaning of the words after `policy`: `NAME`, the name of a policy
 abbrev pub policy_of : List (List ℕ) → Reading
 policy_of arguments = made Policy (policy_named (only_word arguments))
 
--- nothing after `ping`
+-- the meaning of the words after `ping`: no word
 abbrev pub ping_of : List (List ℕ) → Reading
 ping_of arguments = if length arguments == 0 then Ok Ping else Err BadStatement
 
--- nothing after `quit`
+-- the meaning of the words after `quit`: no word
 abbrev pub quit_of : List (List ℕ) → Reading
 quit_of arguments = if length arguments == 0 then Ok (End Quit) else Err BadStatement

@@ -302,7 +302,7 @@ fn parse_policy(rest: &[u8]) -> Result<Statement, Refusal>
     }
 }
 
-/// The policy with this name.
+/// The policy with this name, or `None` if there is none.
 fn policy_named(name: &[u8]) -> Option<Policy>
     ensures { result ≡ policy_named name.now }
 {

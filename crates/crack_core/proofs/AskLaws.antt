@@ -22,7 +22,7 @@ use Rattle.crack_core.specs.Cores.{CoreState}
 use Rattle.crack_part.specs.Parts.{Part}
 use Rattle.crack_part.specs.Refusals.{is_key_in}
 use Rattle.crack_part.specs.Upkeep.{is_automatic, is_full}
-use Rattle.crack_core.specs.Steps.{bounds_of, unless, MayLackCell, IsOutcome, tables_of}
+use Rattle.crack_core.specs.Steps.{bounds_from, unless, MayLackCell, IsOutcome, tables_of}
 use Rattle.crack_core.proofs.TurnLaws.{turns-along}
 use Rattle.crack_core.specs.Asking.{step_at, Lasts, Asks, AsksCore, AsksEach, AsksInTurn, ReadsParts, counted, summed, rows_told}
 use Rattle.crack_core.specs.declared.turns.PartReply.{PartReply}
@@ -43,20 +43,20 @@ no-ok : {X : Type 0} (e : Refusal) → IsOk (refused_with e) → X
 no-ok e is = absurd (true≢false (sym is))
 
 -- what is replied is the reply of plain rows
-said-by : (limits : Limits) (keys : Range) (table : Option PlainView) (command : Command) (reply : Reply) → IsOutcome (bounds_of limits) keys table command (Ok reply) → (s : PlainState) × (reply ≡ reply_to s command)
+said-by : (limits : Limits) (keys : Range) (table : Option PlainView) (command : Command) (reply : Reply) → IsOutcome (bounds_from limits) keys table command (Ok reply) → (s : PlainState) × (reply ≡ reply_to s command)
 said-by limits keys None command reply outcome = elim outcome [
   | inl is ↦ cc is
   | inr both ↦ no-ok NoSuchPartition both.0
 ]
 said-by limits keys (Some t) command reply outcome = (t.state, by_test (is_key_in keys (key_of command)) (is_full limits t.since) (nat_le limits.life (accepted_of t)) outcome)
   where
-    none : (x : Refusal) → Comes (refused_with x) (MayLackCell (bounds_of limits) (Some t) command) (Ok reply) → reply ≡ reply_to t.state command
+    none : (x : Refusal) → Comes (refused_with x) (MayLackCell (bounds_from limits) (Some t) command) (Ok reply) → reply ≡ reply_to t.state command
     none x comes = elim comes [
       | inl is ↦ cc is
       | inr both ↦ no-ok x both.0
     ]
 
-    by_test : (is_own full over : Bool) → Comes (by_tests is_own full over limits.history (reply_to t.state command)) (MayLackCell (bounds_of limits) (Some t) command) (Ok reply) → reply ≡ reply_to t.state command
+    by_test : (is_own full over : Bool) → Comes (by_tests is_own full over limits.history (reply_to t.state command)) (MayLackCell (bounds_from limits) (Some t) command) (Ok reply) → reply ≡ reply_to t.state command
     by_test false full over comes = none KeyOutside comes
     by_test true true over comes = none (HistoryFull limits.history) comes
     by_test true false true comes = none LifeOver comes
@@ -85,12 +85,12 @@ said-lasts limits table r said is = (λ entries full. refused (sym is ∙ full),
     refused same = cc same
 
 -- under automatic upkeep no full history refuses, and a cell is missing only if there are as many rows as they may have cells
-pub lasts-by : (limits : Limits) (keys : Range) (table : Option PlainView) (command : Command) (r : Result Reply Refusal) → is_automatic limits.upkeep ≡ true → IsOutcome (bounds_of limits) keys table command r → Lasts limits table r
+pub lasts-by : (limits : Limits) (keys : Range) (table : Option PlainView) (command : Command) (r : Result Reply Refusal) → is_automatic limits.upkeep ≡ true → IsOutcome (bounds_from limits) keys table command r → Lasts limits table r
 lasts-by limits keys None command r automatic outcome = elim outcome [
   | inl is ↦ other-lasts limits None r NoSuchPartition is (λ entries same. cc same) (λ same. cc same)
   | inr both ↦ no-ok NoSuchPartition both.0
 ]
-lasts-by limits keys (Some t) command r automatic outcome = by_test (is_key_in keys (key_of command)) (nat_le limits.life (accepted_of t)) (subst (λ (full : Bool). Comes (by_tests (is_key_in keys (key_of command)) full (nat_le limits.life (accepted_of t)) limits.history (reply_to t.state command)) (MayLackCell (bounds_of limits) (Some t) command) r) never outcome)
+lasts-by limits keys (Some t) command r automatic outcome = by_test (is_key_in keys (key_of command)) (nat_le limits.life (accepted_of t)) (subst (λ (full : Bool). Comes (by_tests (is_key_in keys (key_of command)) full (nat_le limits.life (accepted_of t)) limits.history (reply_to t.state command)) (MayLackCell (bounds_from limits) (Some t) command) r) never outcome)
   where
     both-false : (b : Bool) → (b && false) ≡ false
     both-false true = refl
@@ -99,16 +99,16 @@ lasts-by limits keys (Some t) command r automatic outcome = by_test (is_key_in k
     never : is_full limits t.since ≡ false
     never = ap (λ (b : Bool). nat_le limits.history t.since && not b) automatic ∙ both-false (nat_le limits.history t.since)
 
-    rows : MayLackCell (bounds_of limits) (Some t) command → limits.cells ≤ length t.state.rows
+    rows : MayLackCell (bounds_from limits) (Some t) command → limits.cells ≤ length t.state.rows
     rows lacks = rw automatic at lacks.1
 
-    none : (x : Refusal) → ((entries : ℕ) → x ≢ HistoryFull entries) → x ≢ NoCell → Comes (refused_with x) (MayLackCell (bounds_of limits) (Some t) command) r → Lasts limits (Some t) r
+    none : (x : Refusal) → ((entries : ℕ) → x ≢ HistoryFull entries) → x ≢ NoCell → Comes (refused_with x) (MayLackCell (bounds_from limits) (Some t) command) r → Lasts limits (Some t) r
     none x not_full not_short comes = elim comes [
       | inl is ↦ other-lasts limits (Some t) r x is not_full not_short
       | inr both ↦ no-ok x both.0
     ]
 
-    by_test : (is_own over : Bool) → Comes (by_tests is_own false over limits.history (reply_to t.state command)) (MayLackCell (bounds_of limits) (Some t) command) r → Lasts limits (Some t) r
+    by_test : (is_own over : Bool) → Comes (by_tests is_own false over limits.history (reply_to t.state command)) (MayLackCell (bounds_from limits) (Some t) command) r → Lasts limits (Some t) r
     by_test false over comes = none KeyOutside (λ entries same. cc same) (λ same. cc same) comes
     by_test true true comes = none LifeOver (λ entries same. cc same) (λ same. cc same) comes
     by_test true false comes = elim comes [

@@ -17,7 +17,7 @@ use Rattle.crack_core.specs.declared.step.Job.TheVariants.{Perform, Fold}
 use Rattle.crack_core.specs.declared.step.Done.{Done}
 use Rattle.crack_core.specs.declared.step.Done.TheVariants.{Folded}
 use Rattle.crack_core.specs.Routes.{keys_of_part}
-use Rattle.crack_core.specs.Steps.{Bounds, bounds_of, mapped, fresh_table, tables_of, accepted_by, IsOutcome, IsFoldOutcome, expected_fold, changed_at}
+use Rattle.crack_core.specs.Steps.{Bounds, bounds_from, mapped, fresh_table, tables_of, accepted_by, IsOutcome, IsFoldOutcome, expected_fold, changed_at}
 use Rattle.crack_core.specs.Jobs.{after_job, after_jobs, KeepsJobs, IsJobOutcome, AreExpectedOutcomes, IsFoldedAt, Does, DoesAll}
 use Rattle.crack_core.proofs.StepLaws.{get-last, get-front, get-set_same, get-set_other}
 
@@ -121,7 +121,7 @@ pub AreExpectedOutcomes-nil : (limits : Limits) (splits : List Bound) (tables : 
 AreExpectedOutcomes-nil limits splits tables = record { each = refl; outcomes = λ k j r at. absurd (omega (arith, slice_get_within {A = Job} [] k j at)) }
 
 -- one more job
-pub AreExpectedOutcomes-push : (limits : Limits) (splits : List Bound) (tables : List PlainView) (jobs : List Job) (results : List (Result Done Refusal)) (j : Job) (r : Result Done Refusal) → AreExpectedOutcomes limits splits tables jobs results → IsJobOutcome (bounds_of limits) splits (λ part. option_map (after_jobs limits part jobs results) (slice_get tables part)) j r → AreExpectedOutcomes limits splits tables (jobs ++ j ∷ []) (results ++ r ∷ [])
+pub AreExpectedOutcomes-push : (limits : Limits) (splits : List Bound) (tables : List PlainView) (jobs : List Job) (results : List (Result Done Refusal)) (j : Job) (r : Result Done Refusal) → AreExpectedOutcomes limits splits tables jobs results → IsJobOutcome (bounds_from limits) splits (λ part. option_map (after_jobs limits part jobs results) (slice_get tables part)) j r → AreExpectedOutcomes limits splits tables (jobs ++ j ∷ []) (results ++ r ∷ [])
 AreExpectedOutcomes-push limits splits tables jobs results j r before now = record {
   each = omega (arith, before.each, length-append jobs (j ∷ []), length-append results (r ∷ []));
   outcomes = λ k j' r' at_job at_result. ⊎_elim

@@ -10,7 +10,7 @@ use Rattle.crack_part.specs.Parts.{Part, IsSound, table_of}
 use Rattle.crack_part.specs.Cells.{takes_cell, lacks_cell, may_clear, is_without_cell}
 use Rattle.crack_part.specs.Upkeep.{is_automatic}
 use Rattle.crack_part.proofs.ClearLaws.{full-of-rows}
-use Rattle.crack_core.specs.Steps.{bounds_of, taken_where_full, MayLackCell}
+use Rattle.crack_core.specs.Steps.{bounds_from, taken_where_full, MayLackCell}
 
 -- a command that takes a cell has a key
 brings-key : (s : State) (command : Command) → takes_cell s (change_of command) ≡ true → is_some (key_of command) ≡ true
@@ -29,7 +29,7 @@ many-taken p command sound without many = by_test (is_automatic p.limits.upkeep)
     by_test true is = rw is (full-of-rows p (change_of command) sound is without)
     by_test false is = rw is (omega (arith, leb-true p.limits.cells (length p.store.cells) many, sound.few_cells))
 
-pub may-lack : (p : Part) (command : Command) → IsSound p → is_without_cell p.limits p.store (change_of command) ≡ true → MayLackCell (bounds_of p.limits) (Some (table_of p)) command
+pub may-lack : (p : Part) (command : Command) → IsSound p → is_without_cell p.limits p.store (change_of command) ≡ true → MayLackCell (bounds_from p.limits) (Some (table_of p)) command
 may-lack p command sound without =
     let lacks = (and_parts (lacks_cell p.limits.cells p.store (change_of command)) (not (may_clear p.limits p.store)) without).0 in
     let takes = takes_cell p.store (change_of command) in

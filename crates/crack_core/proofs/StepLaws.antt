@@ -26,7 +26,7 @@ use Rattle.crack_part.specs.Cells.{is_without_cell}
 use Rattle.crack_part.specs.Refusals.{is_key_in, stopped_by, refusal_of}
 use Rattle.crack_part.specs.Upkeep.{is_due, answered}
 use Rattle.crack_part.proofs.RefusalLaws.{if_refused}
-use Rattle.crack_core.specs.Steps.{Bounds, bounds_of, mapped, unless, MayLackCell, IsOutcome, IsOutcomeAt, fresh_table, table_after, upkept_by, tables_after, tables_of, accepted_by}
+use Rattle.crack_core.specs.Steps.{Bounds, bounds_from, mapped, unless, MayLackCell, IsOutcome, IsOutcomeAt, fresh_table, table_after, upkept_by, tables_after, tables_of, accepted_by}
 use Rattle.crack_core.specs.Jobs.{after_job, after_jobs, KeepsJobs}
 
 -- the outcome of a command that a partition doesn't refuse by itself
@@ -46,9 +46,9 @@ by_cause true true None said Lacks r refused rest lack = inr (refl, inr (refused
 by_cause true false None said Lacks r refused rest lack = ⊎_elim (λ (is : r ≡ Ok said). inl is) (λ (short : r ≡ Err OutOfMemory). inr (refl, inl short)) (rest refl)
 
 -- what a partition answers is the reply of its plain rows, or the refusal that they call for, or a lack of memory or of a cell in place of a reply
-pub outcome-given : (p q : Part) (command : Command) (r : Result Reply Refusal) → IfOk r (λ (reply : Reply). reply ≡ reply_to (state_of p) command) → IfSome (refusal_of p command) (λ e. (r ≡ Err e) × (q ≡ p)) → (refusal_of p command ≡ None → IfErr r (λ e. e ≡ OutOfMemory)) → (is_without_cell p.limits p.store (change_of command) ≡ true → MayLackCell (bounds_of p.limits) (Some (table_of p)) command) → IsOutcome (bounds_of p.limits) p.keys (Some (table_of p)) command r
+pub outcome-given : (p q : Part) (command : Command) (r : Result Reply Refusal) → IfOk r (λ (reply : Reply). reply ≡ reply_to (state_of p) command) → IfSome (refusal_of p command) (λ e. (r ≡ Err e) × (q ≡ p)) → (refusal_of p command ≡ None → IfErr r (λ e. e ≡ OutOfMemory)) → (is_without_cell p.limits p.store (change_of command) ≡ true → MayLackCell (bounds_from p.limits) (Some (table_of p)) command) → IsOutcome (bounds_from p.limits) p.keys (Some (table_of p)) command r
 outcome-given p q command r said refused memory lack =
-    by_cause (is_key_in p.keys (key_of command)) (is_without_cell p.limits p.store (change_of command)) (stopped_by p.limits (table_of p)) (reply_to (state_of p) command) (MayLackCell (bounds_of p.limits) (Some (table_of p)) command) r
+    by_cause (is_key_in p.keys (key_of command)) (is_without_cell p.limits p.store (change_of command)) (stopped_by p.limits (table_of p)) (reply_to (state_of p) command) (MayLackCell (bounds_from p.limits) (Some (table_of p)) command) r
     (if_refused (refusal_of p command) (λ e. (r ≡ Err e) × (q ≡ p)) (λ e. r ≡ Err e) (λ e is. is.0) refused)
     (λ none. replied-or-short (reply_to (state_of p) command) r said (memory none))
     lack
@@ -69,7 +69,7 @@ err_given (Ok reply) p f = tt
 err_given (Err e) p f = f p
 
 -- a plain table after an answered command is the one with one more command, after the checkpoint that is due
-answered-is : (limits : Limits) (table : PlainView) (command : Command) → answered limits table command ≡ table_after (upkept_by (bounds_of limits) table) command
+answered-is : (limits : Limits) (table : PlainView) (command : Command) → answered limits table command ≡ table_after (upkept_by (bounds_from limits) table) command
 answered-is limits table command = by_test (is_due limits table.since)
   where
     by_test : (b : Bool) → record { state = after table.state command; folded = (cond b (checkpointed table) table).folded; since = (cond b (checkpointed table) table).since + 1 } ≡ table_after (cond b (checkpointed table) table) command
@@ -77,7 +77,7 @@ answered-is limits table command = by_test (is_due limits table.since)
     by_test false = refl
 
 -- and counts one command more
-accepted-after : (limits : Limits) (table : PlainView) (command : Command) → accepted_of (table_after (upkept_by (bounds_of limits) table) command) ≡ accepted_of table + 1
+accepted-after : (limits : Limits) (table : PlainView) (command : Command) → accepted_of (table_after (upkept_by (bounds_from limits) table) command) ≡ accepted_of table + 1
 accepted-after limits table command = by_test (is_due limits table.since)
   where
     by_test : (b : Bool) → accepted_of (table_after (cond b (checkpointed table) table) command) ≡ accepted_of table + 1
@@ -85,11 +85,11 @@ accepted-after limits table command = by_test (is_due limits table.since)
     by_test false = omega arith
 
 -- a partition's plain table after a step: an answered one changes that of its own partition alone
-job-own : (limits : Limits) (s : Step) (reply : Reply) (table : PlainView) → after_job limits s.part (Perform s) (Ok (Replied reply)) table ≡ table_after (upkept_by (bounds_of limits) table) s.command
-job-own limits s reply table = ap (λ (b : Bool). cond b (table_after (upkept_by (bounds_of limits) table) s.command) table) (eq-eqb s.part s.part refl)
+job-own : (limits : Limits) (s : Step) (reply : Reply) (table : PlainView) → after_job limits s.part (Perform s) (Ok (Replied reply)) table ≡ table_after (upkept_by (bounds_from limits) table) s.command
+job-own limits s reply table = ap (λ (b : Bool). cond b (table_after (upkept_by (bounds_from limits) table) s.command) table) (eq-eqb s.part s.part refl)
 
 job-other : (limits : Limits) (part : ℕ) (s : Step) (r : Result Reply Refusal) (table : PlainView) → s.part ≢ part → after_job limits part (Perform s) (mapped Replied r) table ≡ table
-job-other limits part s (Ok reply) table differs = ap (λ (b : Bool). cond b (table_after (upkept_by (bounds_of limits) table) s.command) table) (ne_eqb s.part part differs)
+job-other limits part s (Ok reply) table differs = ap (λ (b : Bool). cond b (table_after (upkept_by (bounds_from limits) table) s.command) table) (ne_eqb s.part part differs)
 job-other limits part s (Err e) table differs = refl
 
 -- the plain table is that of a step that was answered
@@ -143,11 +143,11 @@ Keeps-set limits parts q d s r within kept = λ k. ⊎_elim
         ∙ ap (λ (o : Option Part). option_map (after_jobs limits s.part (Perform s ∷ []) (mapped Replied r ∷ [])) (option_map (λ (p : Part). table_of p) o)) (sym (slice_get-get_or parts s.part d within))
         ∙ ap (option_map (after_jobs limits s.part (Perform s ∷ []) (mapped Replied r ∷ []))) (sym (slice_get-map (λ (p : Part). table_of p) parts s.part))
 
-pub tables-set : (limits : Limits) (parts : List Part) (q d : Part) (s : Step) (r : Result Reply Refusal) → s.part < length parts → table_of q ≡ after_job limits s.part (Perform s) (mapped Replied r) (table_of (get_or parts s.part d)) → tables_of (set parts s.part q) ≡ tables_after (bounds_of limits) (tables_of parts) s.part s.command r
+pub tables-set : (limits : Limits) (parts : List Part) (q d : Part) (s : Step) (r : Result Reply Refusal) → s.part < length parts → table_of q ≡ after_job limits s.part (Perform s) (mapped Replied r) (table_of (get_or parts s.part d)) → tables_of (set parts s.part q) ≡ tables_after (bounds_from limits) (tables_of parts) s.part s.command r
 tables-set limits parts q d s (Ok reply) within kept =
     let table = λ (p : Part). table_of p in
     let there = sym (get_or-map table parts s.part d fresh_table within) in
-    map-set table parts s.part q ∙ ap (set (tables_of parts) s.part) (kept ∙ job-own limits s reply (table_of (get_or parts s.part d)) ∙ ap (λ (t : PlainView). table_after (upkept_by (bounds_of limits) t) s.command) there)
+    map-set table parts s.part q ∙ ap (set (tables_of parts) s.part) (kept ∙ job-own limits s reply (table_of (get_or parts s.part d)) ∙ ap (λ (t : PlainView). table_after (upkept_by (bounds_from limits) t) s.command) there)
 tables-set limits parts q d s (Err e) within kept =
     map-set_same (λ (p : Part). table_of p) parts s.part q d kept
 
@@ -181,11 +181,11 @@ outcome-nowhere splits bounds parts s beyond =
     subst (λ (t : Option PlainView). IsOutcome bounds (keys_of_part splits s.part) t s.command (Err NoSuchPartition)) (sym none) (inl refl)
 
 -- what a partition of these splits is to answer is what the one with this number is to answer
-pub outcome-at : (splits : List Bound) (limits : Limits) (parts : List Part) (s : Step) (r : Result Reply Refusal) (d : Part) → AreParts splits limits parts → s.part < length parts → IsOutcome (bounds_of (get_or parts s.part d).limits) (get_or parts s.part d).keys (Some (table_of (get_or parts s.part d))) s.command r → IsOutcomeAt (bounds_of limits) splits (tables_of parts) s.part s.command r
+pub outcome-at : (splits : List Bound) (limits : Limits) (parts : List Part) (s : Step) (r : Result Reply Refusal) (d : Part) → AreParts splits limits parts → s.part < length parts → IsOutcome (bounds_from (get_or parts s.part d).limits) (get_or parts s.part d).keys (Some (table_of (get_or parts s.part d))) s.command r → IsOutcomeAt (bounds_from limits) splits (tables_of parts) s.part s.command r
 outcome-at splits limits parts s r d are within outcome =
     let table = λ (p : Part). table_of p in
     let there = slice_get-map table parts s.part ∙ ap (option_map table) (slice_get-get_or parts s.part d within) in
-    rw (there, ← are.keys s.part d within) (subst (λ (l : Limits). IsOutcome (bounds_of l) (get_or parts s.part d).keys (Some (table_of (get_or parts s.part d))) s.command r) (are.alike s.part d within) outcome)
+    rw (there, ← are.keys s.part d within) (subst (λ (l : Limits). IsOutcome (bounds_from l) (get_or parts s.part d).keys (Some (table_of (get_or parts s.part d))) s.command r) (are.alike s.part d within) outcome)
 
 -- a relation of a partition and the one that replaces it holds of those with its number
 pub replaced-at : (R : Part → Part → Type 0) (parts : List Part) (i : ℕ) (q d : Part) → i < length parts → R (get_or parts i d) q → (old new : Part) → slice_get parts i ≡ Some old → slice_get (set parts i q) i ≡ Some new → R old new

@@ -7,7 +7,7 @@ use Rattle.crack_row.specs.declared.limit.Limits.{Limits}
 use Rattle.crack_row.specs.declared.refusal.Refusal.{Refusal}
 use Rattle.crack_plain.specs.Plain.{PlainView, checkpointed}
 use Rattle.crack_part.specs.Upkeep.{is_due}
-use Rattle.crack_core.specs.Steps.{bounds_of, table_after, upkept_by}
+use Rattle.crack_core.specs.Steps.{bounds_from, table_after, upkept_by}
 use Rattle.crack_core.specs.Jobs.{after_job, after_jobs}
 use Rattle.crack_core.specs.Upkeep.{on_request, is_kept_up, with_folds, with_folded, IsKeptUp}
 use Rattle.crack_core.specs.declared.step.Job.{Job}
@@ -20,7 +20,7 @@ none-due true = refl
 none-due false = refl
 
 -- if upkeep is on request, no checkpoint is due
-upkept-on_request : (limits : Limits) (table : PlainView) → upkept_by (bounds_of (on_request limits)) table ≡ table
+upkept-on_request : (limits : Limits) (table : PlainView) → upkept_by (bounds_from (on_request limits)) table ≡ table
 upkept-on_request limits table = ap (λ (b : Bool). cond b (checkpointed table) table) (none-due (nat_le limits.history table.since))
 
 -- a step of a partition's own, or of another, after the checkpoint that upkeep makes, or without one

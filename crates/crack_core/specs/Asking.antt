@@ -22,7 +22,7 @@ use Rattle.crack_part.specs.Parts.{Part}
 use Rattle.crack_part.specs.Upkeep.{is_automatic}
 use Rattle.crack_core.specs.Cores.{CoreState}
 use Rattle.crack_core.specs.Routes.{route, parts_of}
-use Rattle.crack_core.specs.Steps.{bounds_of, mapped, IsOutcomeAt, tables_of, tables_after}
+use Rattle.crack_core.specs.Steps.{bounds_from, mapped, IsOutcomeAt, tables_of, tables_after}
 use Rattle.crack_core.specs.Jobs.{DoesStep}
 use Rattle.crack_core.specs.declared.step.Step.{Step}
 use Rattle.crack_core.specs.declared.asking.Query.{Query}
@@ -42,8 +42,8 @@ Lasts limits table outcome = ((entries : ℕ) → outcome ≢ Err (HistoryFull e
 -- answer counts as one more command, and the store changes by the step's policy; if upkeep is automatic, the
 -- history is never full, and a cell is missing only if there are as many rows as cells allowed
 pub record Asks (limits : Limits) (splits : List Bound) (step : Step) (outcome : Result Reply Refusal) (old new : List Part) : Type 0 where
-  pub comes_out : IsOutcomeAt (bounds_of limits) splits (tables_of old) step.part step.command outcome
-  pub leaves : tables_of new ≡ tables_after (bounds_of limits) (tables_of old) step.part step.command outcome
+  pub comes_out : IsOutcomeAt (bounds_from limits) splits (tables_of old) step.part step.command outcome
+  pub leaves : tables_of new ≡ tables_after (bounds_from limits) (tables_of old) step.part step.command outcome
   pub makes : DoesStep splits limits step outcome old new
   pub lasts : is_automatic limits.upkeep ≡ true → Lasts limits (slice_get (tables_of old) step.part) outcome
 

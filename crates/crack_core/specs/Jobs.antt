@@ -11,7 +11,7 @@ use Rattle.crack_plain.specs.Plain.{PlainView, checkpointed}
 use Rattle.crack_part.specs.Parts.{Part, Serves, Spares, folded_part}
 use Rattle.crack_core.specs.Routes.{keys_of_part}
 use Rattle.crack_core.specs.Opening.{AreParts}
-use Rattle.crack_core.specs.Steps.{Bounds, bounds_of, mapped, IsOutcome, expected_fold, table_after, upkept_by, tables_of, tables_after}
+use Rattle.crack_core.specs.Steps.{Bounds, bounds_from, mapped, IsOutcome, expected_fold, table_after, upkept_by, tables_of, tables_after}
 use Rattle.crack_core.specs.declared.step.Step.{Step}
 use Rattle.crack_core.specs.declared.step.Job.{Job}
 use Rattle.crack_core.specs.declared.step.Job.TheVariants.{Perform, Fold}
@@ -21,7 +21,7 @@ use Rattle.crack_core.specs.declared.step.Done.TheVariants.{Replied, Folded}
 -- the plain table of one partition after a job: an answered step of this partition adds its command, after the
 -- checkpoint that is due, and a checkpoint of this partition is made; other jobs change nothing
 abbrev pub after_job : Limits → ℕ → Job → Result Done Refusal → PlainView → PlainView
-after_job limits part (Perform step) (Ok (Replied reply)) table = if step.part == part then table_after (upkept_by (bounds_of limits) table) step.command else table
+after_job limits part (Perform step) (Ok (Replied reply)) table = if step.part == part then table_after (upkept_by (bounds_from limits) table) step.command else table
 after_job limits part (Fold number) (Ok (Folded count)) table = if number == part then checkpointed table else table
 after_job limits part job result table = table
 
@@ -42,7 +42,7 @@ AtPart part Holds old new = (p q : Part) → slice_get old part ≡ Some p → s
 -- `OutOfMemory`
 pub record DoesStep (splits : List Bound) (limits : Limits) (step : Step) (result : Result Reply Refusal) (old new : List Part) : Type 0 where
   pub parts : AreParts splits limits new
-  pub kept : tables_of new ≡ tables_after (bounds_of limits) (tables_of old) step.part step.command result
+  pub kept : tables_of new ≡ tables_after (bounds_from limits) (tables_of old) step.part step.command result
   pub others : (k : ℕ) → k ≢ step.part → slice_get new k ≡ slice_get old k
   pub store : OnOk result (AtPart step.part (λ p q. Serves step.policy p step.command q.store) old new)
   pub spared : OnErr result (AtPart step.part (λ p q. Spares step.policy p step.command q.store) old new)
@@ -59,7 +59,7 @@ IsJobOutcome bounds splits table (Fold part) result = result ≡ mapped Folded (
 pub record AreExpectedOutcomes (limits : Limits) (splits : List Bound) (tables : List PlainView) (jobs : List Job) (results : List (Result Done Refusal)) : Type 0 where
   pub each : length results ≡ length jobs
   pub outcomes : (k : ℕ) (job : Job) (result : Result Done Refusal) → slice_get jobs k ≡ Some job → slice_get results k ≡ Some result →
-      IsJobOutcome (bounds_of limits) splits (λ part. option_map (after_jobs limits part (take k jobs) (take k results)) (slice_get tables part)) job result
+      IsJobOutcome (bounds_from limits) splits (λ part. option_map (after_jobs limits part (take k jobs) (take k results)) (slice_get tables part)) job result
 
 -- a checkpoint of the partition with this number is made, and the others are unchanged
 abbrev pub IsFoldedAt : ℕ → List Part → List Part → Type 0

@@ -35,8 +35,8 @@ abbrev pub taken_where_full : Limits → PlainView → ℕ
 taken_where_full limits table = if is_automatic limits.upkeep then length table.state.rows else accepted_of table
 
 -- what these limits mean for a partition
-abbrev pub bounds_of : Limits → Bounds
-bounds_of limits = record { stop = stopped_by limits; cells = limits.cells; taken = taken_where_full limits; due = λ table. is_due limits table.since }
+abbrev pub bounds_from : Limits → Bounds
+bounds_from limits = record { stop = stopped_by limits; cells = limits.cells; taken = taken_where_full limits; due = λ table. is_due limits table.since }
 
 -- an outcome with a function applied to its value; a refusal is unchanged
 abbrev pub mapped : {X Y : Type 0} → (X → Y) → Result X Refusal → Result Y Refusal

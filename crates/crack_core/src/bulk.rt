@@ -103,6 +103,7 @@ impl Core {
             (length keys.now) self.old.parts result self.new.parts }
         ensures opened { (self.new.splits ≡ self.old.splits) × (self.new.limits ≡ self.old.limits) }
     {
+        self.make_room_for(keys.len());
         'rows: for i in 0..keys.len() {
             let key = Key::from_number(keys[i]);
             let payload = payloads[i];

@@ -8,7 +8,7 @@ ghost use Rattle.crack_plain.specs.Plain.{PlainView, IsNumbered, IsSmall, checkp
 ghost use Rattle.crack_part.specs.Parts.{Part, table_of, Serves, Spares};
 ghost use Rattle.crack_core.specs.Routes.{AreSplits, keys_of_part, route, parts_of};
 ghost use Rattle.crack_core.specs.Opening.{opening_fault, MayFault, AreParts};
-ghost use Rattle.crack_core.specs.Steps.{bounds_of, IsOutcomeAt, IsLayoutOutcome, expected_fold, tables_of};
+ghost use Rattle.crack_core.specs.Steps.{bounds_from, IsOutcomeAt, IsLayoutOutcome, expected_fold, tables_of};
 ghost use Rattle.crack_core.specs.Steps.{IsStatisticsOutcome, expected_statistics};
 ghost use Rattle.crack_core.specs.Steps.{mapped, fresh_table, tables_after, changed_at, accepted_by};
 ghost use Rattle.crack_store.specs.Inside.{no_cells, IsLayoutOf};
@@ -127,6 +127,16 @@ impl Core {
         routes::parts_of(*self.splits.allocator(), &self.splits, range)
     }
 
+    /// Makes room for `rows` insertions if there is only one partition, and memory for them is found. Changes nothing
+    /// else. O(1), except for growth.
+    pub(crate) fn make_room_for(&mut self, rows: usize)
+        ensures { self.new ≡ self.old }
+    {
+        if self.partitions.len() == 1 {
+            self.partitions[0].make_room_for(rows);
+        }
+    }
+
     /// The layout of one partition. Cracks and merges nothing, and isn't counted as a command. Refused with
     /// `NoSuchPartition` if there is none, and with `OutOfMemory` if no memory is found. O(pieces).
     pub fn layout(&self, part: u32) -> Result<Layout, Refusal>
@@ -163,11 +173,11 @@ impl Core {
     pub fn step(&mut self, step: Step) -> Result<Reply, Refusal>
         // The outcome is the reply that the partition's plain rows give, or the refusal that they require. In place
         // of a reply it may be `OutOfMemory` or `NoCell`.
-        ensures outcome { IsOutcomeAt (bounds_of self.old.limits) self.old.splits
+        ensures outcome { IsOutcomeAt (bounds_from self.old.limits) self.old.splits
             (tables_of self.old.parts) step.part step.command result }
         // The plain rows change as the reply says. A refusal leaves them unchanged.
         ensures after { tables_of self.new.parts ≡
-            tables_after (bounds_of self.old.limits) (tables_of self.old.parts) step.part step.command result }
+            tables_after (bounds_from self.old.limits) (tables_of self.old.parts) step.part step.command result }
         ensures accepted { accepted_by self.new.parts ≡
             (if is_ok result then accepted_by self.old.parts + 1 else accepted_by self.old.parts) }
         ensures small { IfOk result IsSmall }
@@ -258,9 +268,9 @@ impl Core {
 #[inline(always)]
 fn ask_at(partitions: &mut [Partition], step: Step) -> Result<Reply, Refusal>
     ensures outcome { (splits : List Bound) (limits : Limits) → AreParts splits limits partitions.old →
-        IsOutcomeAt (bounds_of limits) splits (tables_of partitions.old) step.part step.command result }
+        IsOutcomeAt (bounds_from limits) splits (tables_of partitions.old) step.part step.command result }
     ensures after { (splits : List Bound) (limits : Limits) → AreParts splits limits partitions.old →
-        tables_of partitions.new ≡ tables_after (bounds_of limits)
+        tables_of partitions.new ≡ tables_after (bounds_from limits)
         (tables_of partitions.old) step.part step.command result }
     ensures kept { (splits : List Bound) (limits : Limits) → AreParts splits limits partitions.old →
         KeepsJobs limits (tables_of partitions.old) (Job.Perform step ∷ []) (mapped Done.Replied result ∷ [])
@@ -335,7 +345,7 @@ fn fold_at(partitions: &mut [Partition], part: u32) -> Result<u64, Refusal>
 /// Does one job: performs a step, or makes a checkpoint. Refused as `Core::step` and `Core::checkpoint` are.
 fn do_job(partitions: &mut [Partition], job: Job) -> Result<Done, Refusal>
     ensures outcome { (splits : List Bound) (limits : Limits) → AreParts splits limits partitions.old →
-        IsJobOutcome (bounds_of limits) splits (slice_get (tables_of partitions.old)) job result }
+        IsJobOutcome (bounds_from limits) splits (slice_get (tables_of partitions.old)) job result }
     ensures kept { (splits : List Bound) (limits : Limits) → AreParts splits limits partitions.old →
         KeepsJobs limits (tables_of partitions.old) (job ∷ []) (result ∷ []) (tables_of partitions.new) }
     ensures does { (splits : List Bound) (limits : Limits) → AreParts splits limits partitions.old →

@@ -6,7 +6,7 @@ use Rattle.crack_row.specs.Ranges.{Range}
 use Rattle.crack_row.specs.declared.TheConstants.{GREATEST_BOUND}
 use Rattle.crack_index.specs.declared.sums.TheConstants.{UNKNOWN}
 use Rattle.crack_index.specs.Sums.{IsKnown, IsAdditive, AreTold, IsEnd, Extends}
-use Rattle.crack_index.specs.Cuts.{Rises, IsRest, piece_at, next_at, put, given, span}
+use Rattle.crack_index.specs.Cuts.{StartsRise, IsRest, sum_piece_at, next_at, put, given, span}
 use Rattle.crack_index.proofs.Pieces.{end-above, none_below, next_above, piece-is, piece-above, IsEnd-put, IsEnd-given, AreRight-given, AreRight-split, AreRight-begin}
 
 pub by_bool : (b : Bool) (P : Type 0) → (IsTrue b → P) → ((IsTrue b → ⊥) → P) → P
@@ -14,17 +14,17 @@ by_bool true P p q = p refl
 by_bool false P p q = q (λ h. absurd (cc))
 
 -- a piece that begins at a key has it
-pub piece-own : (key : ℕ) (es : List (ℕ × ℤ)) (p : ℕ × ℤ) → Rises es → key < GREATEST_BOUND → piece_at key es ≡ Some p → IsEnd key es → p.0 ≡ key
+pub piece-own : (key : ℕ) (es : List (ℕ × ℤ)) (p : ℕ × ℤ) → StartsRise es → key < GREATEST_BOUND → sum_piece_at key es ≡ Some p → IsEnd key es → p.0 ≡ key
 piece-own key es p rises few found is =
     let above = piece-above key key es p rises few found is (omega arith) in
     let below = (piece-is key es p rises few found).below in
     omega arith
 
 -- no piece begins at a key if the piece that has it begins elsewhere
-pub end-apart : (key : ℕ) (es : List (ℕ × ℤ)) (p : ℕ × ℤ) → Rises es → key < GREATEST_BOUND → piece_at key es ≡ Some p → p.0 ≢ key → IsEnd key es → ⊥
+pub end-apart : (key : ℕ) (es : List (ℕ × ℤ)) (p : ℕ × ℤ) → StartsRise es → key < GREATEST_BOUND → sum_piece_at key es ≡ Some p → p.0 ≢ key → IsEnd key es → ⊥
 end-apart key es p rises few found apart is = apart (piece-own key es p rises few found is)
 
-pub end-has : (key : ℕ) (es : List (ℕ × ℤ)) → Rises es → key < GREATEST_BOUND → piece_at key es ≡ None → IsEnd key es → ⊥
+pub end-has : (key : ℕ) (es : List (ℕ × ℤ)) → StartsRise es → key < GREATEST_BOUND → sum_piece_at key es ≡ None → IsEnd key es → ⊥
 end-has key es rises few none is =
     let below = none_below key es rises few none in
     let above = end-above key es rises is in
@@ -40,13 +40,13 @@ module _ (says : ℕ → ℕ → ℤ → Type 0) where
     ends = λ bound is. two.ends bound (one.ends bound is);
   }
 
-  pub Extends-begin : (key : ℕ) (es : List (ℕ × ℤ)) → Rises es → key < GREATEST_BOUND → piece_at key es ≡ None → Extends says es (put key UNKNOWN es)
+  pub Extends-begin : (key : ℕ) (es : List (ℕ × ℤ)) → StartsRise es → key < GREATEST_BOUND → sum_piece_at key es ≡ None → Extends says es (put key UNKNOWN es)
   Extends-begin key es rises few none = record {
     right = λ m adds told right. AreRight-begin m key es (none_below key es rises few none) right;
     ends = λ bound is. IsEnd-put bound key UNKNOWN es is;
   }
 
-  Extends-split : (key : ℕ) (p : ℕ × ℤ) (lower upper : ℤ) (es : List (ℕ × ℤ)) → Rises es → key < GREATEST_BOUND → piece_at key es ≡ Some p → p.0 ≢ key
+  Extends-split : (key : ℕ) (p : ℕ × ℤ) (lower upper : ℤ) (es : List (ℕ × ℤ)) → StartsRise es → key < GREATEST_BOUND → sum_piece_at key es ≡ Some p → p.0 ≢ key
       → ((m : ℕ → ℕ → ℤ) → IsAdditive m → AreTold says m → (IsKnown p.1 → p.1 ≡ m p.0 (next_at key es)) → (IsKnown lower → lower ≡ m p.0 key) × (IsKnown upper → upper ≡ m key (next_at key es)))
       → Extends says es (given p.0 lower (put key upper es))
   Extends-split key p lower upper es rises few found apart sums =
@@ -59,12 +59,12 @@ module _ (says : ℕ → ℕ → ℤ → Type 0) where
       }
 
   -- neither part's sum is known
-  pub Extends-blind : (key : ℕ) (p : ℕ × ℤ) (es : List (ℕ × ℤ)) → Rises es → key < GREATEST_BOUND → piece_at key es ≡ Some p → p.0 ≢ key → Extends says es (given p.0 UNKNOWN (put key UNKNOWN es))
+  pub Extends-blind : (key : ℕ) (p : ℕ × ℤ) (es : List (ℕ × ℤ)) → StartsRise es → key < GREATEST_BOUND → sum_piece_at key es ≡ Some p → p.0 ≢ key → Extends says es (given p.0 UNKNOWN (put key UNKNOWN es))
   Extends-blind key p es rises few found apart =
       Extends-split key p UNKNOWN UNKNOWN es rises few found apart (λ m adds told whole. (λ known. absurd (known refl), λ known. absurd (known refl)))
 
   -- the source was asked for the upper part
-  pub Extends-upper : (key : ℕ) (p : ℕ × ℤ) (lower upper : ℤ) (es : List (ℕ × ℤ)) → Rises es → key < GREATEST_BOUND → piece_at key es ≡ Some p → p.0 ≢ key
+  pub Extends-upper : (key : ℕ) (p : ℕ × ℤ) (lower upper : ℤ) (es : List (ℕ × ℤ)) → StartsRise es → key < GREATEST_BOUND → sum_piece_at key es ≡ Some p → p.0 ≢ key
       → (IsKnown upper → says key (next_at key es) upper) → IsRest p.1 upper lower → Extends says es (given p.0 lower (put key upper es))
   Extends-upper key p lower upper es rises few found apart said rest =
       let piece = piece-is key es p rises few found in
@@ -81,7 +81,7 @@ module _ (says : ℕ → ℕ → ℤ → Type 0) where
       ))
 
   -- the source was asked for the lower part
-  pub Extends-lower : (key : ℕ) (p : ℕ × ℤ) (lower upper : ℤ) (es : List (ℕ × ℤ)) → Rises es → key < GREATEST_BOUND → piece_at key es ≡ Some p → p.0 ≢ key
+  pub Extends-lower : (key : ℕ) (p : ℕ × ℤ) (lower upper : ℤ) (es : List (ℕ × ℤ)) → StartsRise es → key < GREATEST_BOUND → sum_piece_at key es ≡ Some p → p.0 ≢ key
       → (IsKnown lower → says p.0 key lower) → IsRest p.1 lower upper → Extends says es (given p.0 lower (put key upper es))
   Extends-lower key p lower upper es rises few found apart said rest =
       let piece = piece-is key es p rises few found in
@@ -98,7 +98,7 @@ module _ (says : ℕ → ℕ → ℤ → Type 0) where
       ))
 
   -- the source was asked for a piece
-  pub Extends-given : (start : ℕ) (sum : ℤ) (es : List (ℕ × ℤ)) → Rises es → start < GREATEST_BOUND → (IsKnown sum → says start (next_at start es) sum) → Extends says es (given start sum es)
+  pub Extends-given : (start : ℕ) (sum : ℤ) (es : List (ℕ × ℤ)) → StartsRise es → start < GREATEST_BOUND → (IsKnown sum → says start (next_at start es) sum) → Extends says es (given start sum es)
   Extends-given start sum es rises few said = record {
     right = λ m adds told right. AreRight-given m start sum es rises (λ known. told start (next_at start es) sum (next_above start es few) (said known)) right;
     ends = λ bound there. IsEnd-given bound start sum es there;

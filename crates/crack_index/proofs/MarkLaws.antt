@@ -9,7 +9,7 @@ use Rattle.crack_row.specs.declared.Bound.{Bound}
 use Rattle.crack_row.specs.declared.layout.PieceSize.{PieceSize}
 use Rattle.crack_row.specs.Layouts.{AreJoined, LeadTo}
 use Rattle.crack_index.specs.declared.mark.Mark.{Mark}
-use Rattle.crack_index.specs.Marks.{InOrder, Rising, Fits, bounds_of, HasBound, position_of, next_mark, last_mark, first_behind, last_before, start_of, end_of, size_between, pieces_from, added, raised, lowered, lowered_at}
+use Rattle.crack_index.specs.Marks.{InOrder, Rising, Fits, bounds_of, HasBound, position_of, next_mark, last_mark, first_behind, last_before, start_of, end_of, size_between, pieces_from, with_mark, raised, lowered, lowered_at}
 use Rattle.crack_index.specs.Steps.{one_up, one_down}
 
 -- the default beyond the last mark
@@ -192,23 +192,23 @@ Fits-piece m len marks rising from to =
 
 -- Adding
 
-pub Contains-added : (m : Mark) (marks : List Mark) → Contains (added m marks) m
+pub Contains-added : (m : Mark) (marks : List Mark) → Contains (with_mark m marks) m
 Contains-added m [] = Contains-first m []
 Contains-added m (n ∷ ns) = elim (cases_lt m.bound.0 n.bound.0) [
   | inl l ↦ rw (lt-ltb m.bound.0 n.bound.0 l) (Contains-first m (n ∷ ns))
-  | inr l ↦ rw (le-ltb m.bound.0 n.bound.0 l) (Contains-behind n (added m ns) m (Contains-added m ns))
+  | inr l ↦ rw (le-ltb m.bound.0 n.bound.0 l) (Contains-behind n (with_mark m ns) m (Contains-added m ns))
 ]
 
 -- what holds of the new mark and of all others holds of all
-pub All-added : (P : Mark → Type 0) (m : Mark) (marks : List Mark) → P m → All P marks → All P (added m marks)
+pub All-added : (P : Mark → Type 0) (m : Mark) (marks : List Mark) → P m → All P marks → All P (with_mark m marks)
 All-added P m [] one all = All-cons P m [] one all
 All-added P m (n ∷ ns) one all = elim (cases_lt m.bound.0 n.bound.0) [
   | inl l ↦ rw (lt-ltb m.bound.0 n.bound.0 l) (All-cons P m (n ∷ ns) one all)
-  | inr l ↦ rw (le-ltb m.bound.0 n.bound.0 l) (All-cons P n (added m ns) (All-head P n ns all) (All-added P m ns one (All-tail P n ns all)))
+  | inr l ↦ rw (le-ltb m.bound.0 n.bound.0 l) (All-cons P n (with_mark m ns) (All-head P n ns all) (All-added P m ns one (All-tail P n ns all)))
 ]
 
 -- a mark that was there is still there
-pub Contains-kept : (m : Mark) (marks : List Mark) (n : Mark) → Contains marks n → Contains (added m marks) n
+pub Contains-kept : (m : Mark) (marks : List Mark) (n : Mark) → Contains marks n → Contains (with_mark m marks) n
 Contains-kept m [] n is = absurd (let h = is.1 in omega arith)
 Contains-kept m (x ∷ xs) n (zero, h, e) = elim (cases_lt m.bound.0 x.bound.0) [
   | inl l ↦ rw (lt-ltb m.bound.0 x.bound.0 l) (suc zero, omega arith, e)
@@ -216,31 +216,31 @@ Contains-kept m (x ∷ xs) n (zero, h, e) = elim (cases_lt m.bound.0 x.bound.0) 
 ]
 Contains-kept m (x ∷ xs) n (suc i, h, e) = elim (cases_lt m.bound.0 x.bound.0) [
   | inl l ↦ rw (lt-ltb m.bound.0 x.bound.0 l) (suc (suc i), omega arith, e)
-  | inr l ↦ rw (le-ltb m.bound.0 x.bound.0 l) (Contains-behind x (added m xs) n (Contains-kept m xs n (i, omega arith, e)))
+  | inr l ↦ rw (le-ltb m.bound.0 x.bound.0 l) (Contains-behind x (with_mark m xs) n (Contains-kept m xs n (i, omega arith, e)))
 ]
 
 -- a mark that is there is the new one, or was there
-pub Contains-added_cases : (m : Mark) (marks : List Mark) (n : Mark) → Contains (added m marks) n → (n ≡ m) ⊎ Contains marks n
-Contains-added_cases m marks n is = All-contains (λ x. (x ≡ m) ⊎ Contains marks x) (added m marks) n (All-added (λ x. (x ≡ m) ⊎ Contains marks x) m marks (inl refl) (λ k d h. inr (Contains-get_or marks k d h))) is
+pub Contains-added_cases : (m : Mark) (marks : List Mark) (n : Mark) → Contains (with_mark m marks) n → (n ≡ m) ⊎ Contains marks n
+Contains-added_cases m marks n is = All-contains (λ x. (x ≡ m) ⊎ Contains marks x) (with_mark m marks) n (All-added (λ x. (x ≡ m) ⊎ Contains marks x) m marks (inl refl) (λ k d h. inr (Contains-get_or marks k d h))) is
 
-pub HasBound-added : (m : Mark) (marks : List Mark) (b : ℕ) → HasBound (added m marks) b ↔ ((b ≡ m.bound.0) ⊎ HasBound marks b)
+pub HasBound-added : (m : Mark) (marks : List Mark) (b : ℕ) → HasBound (with_mark m marks) b ↔ ((b ≡ m.bound.0) ⊎ HasBound marks b)
 HasBound-added m marks b = (
   λ there.
-      let at = HasBound-contains (added m marks) b there in
+      let at = HasBound-contains (with_mark m marks) b there in
       elim (Contains-added_cases m marks at.0 at.1) [
         | inl e ↦ inl (sym at.2 ∙ ap (λ (x : Mark). x.bound.0) e)
         | inr is ↦ inr (rw at.2 at (HasBound-mark marks at.0 is))
       ],
   λ case. elim case [
-    | inl e ↦ rw e (HasBound-mark (added m marks) m (Contains-added m marks))
+    | inl e ↦ rw e (HasBound-mark (with_mark m marks) m (Contains-added m marks))
     | inr there ↦
         let at = HasBound-contains marks b there in
-        rw at.2 at (HasBound-mark (added m marks) at.0 (Contains-kept m marks at.0 at.1))
+        rw at.2 at (HasBound-mark (with_mark m marks) at.0 (Contains-kept m marks at.0 at.1))
   ],
 )
 
 -- a mark that fits, and whose bound wasn't there, keeps the order
-pub Rising-added : (m : Mark) (marks : List Mark) → Rising marks → (HasBound marks m.bound.0 → ⊥) → Fits m marks → Rising (added m marks)
+pub Rising-added : (m : Mark) (marks : List Mark) → Rising marks → (HasBound marks m.bound.0 → ⊥) → Fits m marks → Rising (with_mark m marks)
 Rising-added m [] rising absent fits = Rising-cons m [] (All-nil (InOrder m)) rising
 Rising-added m (n ∷ ns) rising absent fits = elim (cases_lt m.bound.0 n.bound.0) [
   | inl l ↦
@@ -254,7 +254,7 @@ Rising-added m (n ∷ ns) rising absent fits = elim (cases_lt m.bound.0 n.bound.
         behind = All-tail (λ x. x.bound.0 < m.bound.0 → x.position ≤ m.position) n ns fits.behind;
         before = All-tail (λ x. m.bound.0 < x.bound.0 → m.position ≤ x.position) n ns fits.before;
       }) in
-      rw (le-ltb m.bound.0 n.bound.0 l) (Rising-cons n (added m ns) (All-added (InOrder n) m ns first (Rising-head n ns rising)) rest)
+      rw (le-ltb m.bound.0 n.bound.0 l) (Rising-cons n (with_mark m ns) (All-added (InOrder n) m ns first (Rising-head n ns rising)) rest)
 ]
   where
     HasBound-behind : HasBound ns m.bound.0 → HasBound (n ∷ ns) m.bound.0

@@ -7,7 +7,7 @@ use Rattle.std.proofs.lemmas.List.Elements.{All-nil, All-cons, All-head, All-tai
 use Rattle.crack_index.specs.declared.mark.Mark.{Mark}
 use Rattle.crack_index.specs.Marks.{InOrder, Rising}
 use Rattle.crack_index.specs.Places.{Places, at_place}
-use Rattle.crack_index.specs.Trees.{Grown, marks_of}
+use Rattle.crack_index.specs.Trees.{Grown, marks_in_tree}
 use Rattle.crack_index.specs.Keeps.{height_of, IsBalanced}
 use Rattle.crack_index.proofs.WalkLemmas.{AllPairs-cons, AllPairs-tail, IsBalanced-walked}
 
@@ -48,7 +48,7 @@ module _ {V : Type 0} (places : V → Mark → ℕ → V → Type 0) where
       Places-append a b d l l' (m ∷ r) (m' ∷ r') u v x left (Places-append b c d (m ∷ []) (m' ∷ []) r r' v w x at right)
 
   -- the node is as balanced as before
-  pub IsBalanced-places : (a b : ℕ) (l l2 : Option (Box Grown Global)) (m m2 : Mark) (r r2 : Option (Box Grown Global)) (h : ℕ) (u v : V) → Places places a (marks_of l ++ m ∷ marks_of r) u (marks_of l2 ++ m2 ∷ marks_of r2) v b
+  pub IsBalanced-places : (a b : ℕ) (l l2 : Option (Box Grown Global)) (m m2 : Mark) (r r2 : Option (Box Grown Global)) (h : ℕ) (u v : V) → Places places a (marks_in_tree l ++ m ∷ marks_in_tree r) u (marks_in_tree l2 ++ m2 ∷ marks_in_tree r2) v b
       → height_of l2 ≡ height_of l → height_of r2 ≡ height_of r → IsBalanced l m r h → IsBalanced l2 m2 r2 h
   IsBalanced-places a b l l2 m m2 r r2 h u v walked left right balanced =
-      IsBalanced-walked l l2 m m2 r r2 h (Rising-places a b (marks_of l ++ m ∷ marks_of r) (marks_of l2 ++ m2 ∷ marks_of r2) u v walked balanced.rising) (Places-length a b (marks_of l ++ m ∷ marks_of r) (marks_of l2 ++ m2 ∷ marks_of r2) u v walked) left right balanced
+      IsBalanced-walked l l2 m m2 r r2 h (Rising-places a b (marks_in_tree l ++ m ∷ marks_in_tree r) (marks_in_tree l2 ++ m2 ∷ marks_in_tree r2) u v walked balanced.rising) (Places-length a b (marks_in_tree l ++ m ∷ marks_in_tree r) (marks_in_tree l2 ++ m2 ∷ marks_in_tree r2) u v walked) left right balanced

@@ -8,7 +8,7 @@ use Rattle.std.proofs.lemmas.List.Elements.{All-nil, All-cons, All-head, All-tai
 use Rattle.crack_index.specs.declared.mark.Mark.{Mark}
 use Rattle.crack_index.specs.Marks.{InOrder, Rising}
 use Rattle.crack_index.specs.Raises.{Raises, higher}
-use Rattle.crack_index.specs.Trees.{Grown, marks_of}
+use Rattle.crack_index.specs.Trees.{Grown, marks_in_tree}
 use Rattle.crack_index.specs.Keeps.{height_of, IsBalanced}
 use Rattle.crack_index.proofs.WalkLemmas.{reverse-node, AllPairs-reverse, AllPairs-cons, AllPairs-tail, IsBalanced-walked}
 
@@ -85,7 +85,7 @@ module _ {V : Type 0} (rises : V → Mark → ℕ → V → Type 0) where
       rw (reverse-node l m r, reverse-node l' m' r') (Raises-append a b d (reverse r) (reverse r') (m ∷ reverse l) (m' ∷ reverse l') u v x right (Raises-append b c d (m ∷ []) (m' ∷ []) (reverse l) (reverse l') v w x at left))
 
   -- the node is as balanced as before
-  pub IsBalanced-raises : (a b : ℕ) (l l2 : Option (Box Grown Global)) (m m2 : Mark) (r r2 : Option (Box Grown Global)) (h : ℕ) (u v : V) → Raises rises a (reverse (marks_of l ++ m ∷ marks_of r)) u (reverse (marks_of l2 ++ m2 ∷ marks_of r2)) v b
+  pub IsBalanced-raises : (a b : ℕ) (l l2 : Option (Box Grown Global)) (m m2 : Mark) (r r2 : Option (Box Grown Global)) (h : ℕ) (u v : V) → Raises rises a (reverse (marks_in_tree l ++ m ∷ marks_in_tree r)) u (reverse (marks_in_tree l2 ++ m2 ∷ marks_in_tree r2)) v b
       → height_of l2 ≡ height_of l → height_of r2 ≡ height_of r → IsBalanced l m r h → IsBalanced l2 m2 r2 h
   IsBalanced-raises a b l l2 m m2 r r2 h u v raises left right balanced =
-      IsBalanced-walked l l2 m m2 r r2 h (Rising-raises a b (marks_of l ++ m ∷ marks_of r) (marks_of l2 ++ m2 ∷ marks_of r2) u v raises balanced.rising) (length-raises a b (marks_of l ++ m ∷ marks_of r) (marks_of l2 ++ m2 ∷ marks_of r2) u v raises) left right balanced
+      IsBalanced-walked l l2 m m2 r r2 h (Rising-raises a b (marks_in_tree l ++ m ∷ marks_in_tree r) (marks_in_tree l2 ++ m2 ∷ marks_in_tree r2) u v raises balanced.rising) (length-raises a b (marks_in_tree l ++ m ∷ marks_in_tree r) (marks_in_tree l2 ++ m2 ∷ marks_in_tree r2) u v raises) left right balanced

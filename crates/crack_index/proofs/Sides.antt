@@ -9,12 +9,12 @@ use Rattle.crack_index.specs.declared.mark.Mark.{Mark}
 use Rattle.crack_index.specs.declared.tree.Edge.{Edge}
 use Rattle.crack_row.specs.declared.Bound.{Bound}
 use Rattle.crack_row.specs.declared.layout.PieceSize.{PieceSize}
-use Rattle.crack_index.specs.Marks.{pieces_from, size_between, InOrder, Rising, next_mark, last_mark, first_behind, last_before, added, removed, raised, lowered_at, HasBound}
+use Rattle.crack_index.specs.Marks.{pieces_from, size_between, InOrder, Rising, next_mark, last_mark, first_behind, last_before, with_mark, removed, raised, lowered_at, HasBound}
 use Rattle.std.specs.declared.alloc.Global.{Global}
 use Rattle.std.proofs.Common.{Box}
 use Rattle.crack_index.specs.Heights.{least, most}
-use Rattle.crack_index.specs.Trees.{Grown, marks_of}
-use Rattle.crack_index.specs.Keeps.{height_of, IsTall, DifferByAtMost, IsBalanced, IsKept}
+use Rattle.crack_index.specs.Trees.{Grown, marks_in_tree}
+use Rattle.crack_index.specs.Keeps.{height_of, IsTall, DifferByAtMost, IsBalanced, IsSoundIndex}
 use Rattle.crack_index.proofs.MarkLaws.{Rising-tail, Rising-cons, Rising-head}
 use Rattle.crack_index.proofs.RemoveLaws.{SomeMarks-Rising, SomeMarks-removed, length-removed}
 use Rattle.crack_index.proofs.MarkLemmas.{map_same, raised_below, raised_apart, lowered_at_apart, lowered_at_same}
@@ -116,14 +116,14 @@ last_before-right place (x ∷ l) m r rising h =
 
 -- Adding
 
-pub added-left : (n : Mark) (l : List Mark) (m : Mark) (r : List Mark) → n.bound.0 < m.bound.0 → added n (l ++ m ∷ r) ≡ added n l ++ m ∷ r
+pub added-left : (n : Mark) (l : List Mark) (m : Mark) (r : List Mark) → n.bound.0 < m.bound.0 → with_mark n (l ++ m ∷ r) ≡ with_mark n l ++ m ∷ r
 added-left n [] m r h = rw (lt-ltb n.bound.0 m.bound.0 h) refl
 added-left n (x ∷ l) m r h = elim (cases_lt n.bound.0 x.bound.0) [
   | inl a ↦ rw (lt-ltb n.bound.0 x.bound.0 a) refl
   | inr a ↦ rw (le-ltb n.bound.0 x.bound.0 a) (ap (λ ys. x ∷ ys) (added-left n l m r h))
 ]
 
-pub added-right : (n : Mark) (l : List Mark) (m : Mark) (r : List Mark) → Rising (l ++ m ∷ r) → m.bound.0 ≤ n.bound.0 → added n (l ++ m ∷ r) ≡ l ++ m ∷ added n r
+pub added-right : (n : Mark) (l : List Mark) (m : Mark) (r : List Mark) → Rising (l ++ m ∷ r) → m.bound.0 ≤ n.bound.0 → with_mark n (l ++ m ∷ r) ≡ l ++ m ∷ with_mark n r
 added-right n [] m r rising h = rw (le-ltb n.bound.0 m.bound.0 h) refl
 added-right n (x ∷ l) m r rising h =
     let below = (All-head (λ y. InOrder y m) x l (Rising-before (x ∷ l) m r rising)).bounds in
@@ -237,10 +237,10 @@ height_fits marks height tall few = elim (cases_lt height 130) [
 -- Nodes
 
 -- a node whose marks were moved one by one is as balanced as before
-pub IsBalanced-moved : (f : Mark → Mark) (l l2 : Option (Box Grown Global)) (m m2 : Mark) (r r2 : Option (Box Grown Global)) (h : ℕ) → Rising (map f (marks_of l ++ m ∷ marks_of r))
-    → height_of l2 ≡ height_of l → height_of r2 ≡ height_of r → marks_of l2 ++ m2 ∷ marks_of r2 ≡ map f (marks_of l ++ m ∷ marks_of r) → IsBalanced l m r h → IsBalanced l2 m2 r2 h
+pub IsBalanced-moved : (f : Mark → Mark) (l l2 : Option (Box Grown Global)) (m m2 : Mark) (r r2 : Option (Box Grown Global)) (h : ℕ) → Rising (map f (marks_in_tree l ++ m ∷ marks_in_tree r))
+    → height_of l2 ≡ height_of l → height_of r2 ≡ height_of r → marks_in_tree l2 ++ m2 ∷ marks_in_tree r2 ≡ map f (marks_in_tree l ++ m ∷ marks_in_tree r) → IsBalanced l m r h → IsBalanced l2 m2 r2 h
 IsBalanced-moved f l l2 m m2 r r2 h rising left right is balanced =
-    let long : length (marks_of l2 ++ m2 ∷ marks_of r2) ≡ length (marks_of l ++ m ∷ marks_of r) = ap (λ (xs : List Mark). length xs) is ∙ length-map (marks_of l ++ m ∷ marks_of r) f in
+    let long : length (marks_in_tree l2 ++ m2 ∷ marks_in_tree r2) ≡ length (marks_in_tree l ++ m ∷ marks_in_tree r) = ap (λ (xs : List Mark). length xs) is ∙ length-map (marks_in_tree l ++ m ∷ marks_in_tree r) f in
     record {
       rising = rw is rising;
       high = rw (left, right) balanced.high;
@@ -249,12 +249,12 @@ IsBalanced-moved f l l2 m m2 r r2 h rising left right is balanced =
     }
 
 -- a node that is made of two sides and a mark between
-pub IsBalanced-node : (l : Option (Box Grown Global)) (m : Mark) (r : Option (Box Grown Global)) (h : ℕ) → Rising (marks_of l ++ m ∷ marks_of r) → IsTall (length (marks_of l)) (height_of l) → IsTall (length (marks_of r)) (height_of r) → DifferByAtMost 1 (height_of l) (height_of r) → h ≡ max (height_of l) (height_of r) + 1 → IsBalanced l m r h
+pub IsBalanced-node : (l : Option (Box Grown Global)) (m : Mark) (r : Option (Box Grown Global)) (h : ℕ) → Rising (marks_in_tree l ++ m ∷ marks_in_tree r) → IsTall (length (marks_in_tree l)) (height_of l) → IsTall (length (marks_in_tree r)) (height_of r) → DifferByAtMost 1 (height_of l) (height_of r) → h ≡ max (height_of l) (height_of r) + 1 → IsBalanced l m r h
 IsBalanced-node l m r h rising left right even high = record {
   rising = rising;
   high = high;
   even = even;
-  tall = IsTall-node (marks_of l) m (marks_of r) (height_of l) (height_of r) h left right even high;
+  tall = IsTall-node (marks_in_tree l) m (marks_in_tree r) (height_of l) (height_of r) h left right even high;
 }
 
 -- Rotations
@@ -301,7 +301,7 @@ pieces_whole none made all low high l h last marks len piece empty is_low is_hig
 
 -- The invariant of an index
 
-pub length-added : (m : Mark) (marks : List Mark) → length (added m marks) ≡ length marks + 1
+pub length-added : (m : Mark) (marks : List Mark) → length (with_mark m marks) ≡ length marks + 1
 length-added m [] = omega arith
 length-added m (n ∷ ns) = elim (cases_lt m.bound.0 n.bound.0) [
   | inl l ↦ rw (lt-ltb m.bound.0 n.bound.0 l) (omega arith)
@@ -309,7 +309,7 @@ length-added m (n ∷ ns) = elim (cases_lt m.bound.0 n.bound.0) [
 ]
 
 -- marks that were moved one by one
-pub IsKept-moved : (f : Mark → Mark) (marks new : List Mark) (spare len : ℕ) → new ≡ map f marks → Rising (map f marks) → IsKept marks spare len → IsKept new spare len
+pub IsKept-moved : (f : Mark → Mark) (marks new : List Mark) (spare len : ℕ) → new ≡ map f marks → Rising (map f marks) → IsSoundIndex marks spare len → IsSoundIndex new spare len
 IsKept-moved f marks new spare len is rising kept = record {
   rising = rw is rising;
   counted = ap (λ (xs : List Mark). length xs) is ∙ length-map marks f ∙ kept.counted;
@@ -317,7 +317,7 @@ IsKept-moved f marks new spare len is rising kept = record {
 }
 
 -- one more mark, whose node was spare
-pub IsKept-added : (m : Mark) (marks new : List Mark) (spare left len : ℕ) → new ≡ added m marks → left + 1 ≡ spare → Rising (added m marks) → IsKept marks spare len → IsKept new left (len + 1)
+pub IsKept-added : (m : Mark) (marks new : List Mark) (spare left len : ℕ) → new ≡ with_mark m marks → left + 1 ≡ spare → Rising (with_mark m marks) → IsSoundIndex marks spare len → IsSoundIndex new left (len + 1)
 IsKept-added m marks new spare left len is one rising kept = record {
   rising = rw is rising;
   counted = omega (arith, ap (λ (xs : List Mark). length xs) is, length-added m marks, kept.counted);
@@ -364,7 +364,7 @@ removed-here b (x ∷ l) m r rising e =
     rw (ne_eqb x.bound.0 b (λ s. absurd (omega arith))) (ap (λ ys. x ∷ ys) (removed-here b l m r (Rising-tail x (l ++ m ∷ r) rising) e))
 
 -- an index without one of its marks
-pub IsKept-removed : (b : ℕ) (marks new : List Mark) (spare len left : ℕ) → new ≡ removed b marks → HasBound marks b → left + 1 ≡ len → IsKept marks spare len → IsKept new spare left
+pub IsKept-removed : (b : ℕ) (marks new : List Mark) (spare len left : ℕ) → new ≡ removed b marks → HasBound marks b → left + 1 ≡ len → IsSoundIndex marks spare len → IsSoundIndex new spare left
 IsKept-removed b marks new spare len left is there one kept = record {
   rising = rw is (SomeMarks-Rising (removed b marks) marks (SomeMarks-removed b marks) kept.rising);
   counted = omega (arith, ap (λ (xs : List Mark). length xs) is, length-removed b marks there, kept.counted);

@@ -5,11 +5,11 @@ use Rattle.std.specs.Ordering.{int_eq}
 use Rattle.std.proofs.lemmas.Bool.{cases_eq, cases_lt, lt-ltb, le-ltb, lt-leb, le-leb, eq-eqb, ne_eqb, and_right}
 use Rattle.crack_row.specs.declared.TheConstants.{GREATEST_BOUND}
 use Rattle.crack_index.specs.declared.sums.TheConstants.{UNKNOWN}
-use Rattle.crack_index.specs.Sums.{start_of, IsKnown, IsEnd}
-use Rattle.crack_index.specs.Cuts.{Rises, piece_at, next_at, put, given, dropped}
+use Rattle.crack_index.specs.Sums.{lowest_start, IsKnown, IsEnd}
+use Rattle.crack_index.specs.Cuts.{StartsRise, sum_piece_at, next_at, put, given, dropped}
 use Rattle.std.specs.declared.alloc.Global.{Global}
 use Rattle.std.proofs.Common.{Box}
-use Rattle.crack_index.specs.SumTrees.{Summed, entries_of}
+use Rattle.crack_index.specs.SumTrees.{Summed, entries_in_tree}
 use Rattle.crack_index.specs.Keeps.{IsTall, DifferByAtMost}
 use Rattle.crack_index.specs.SumKeeps.{IsTotal, IsSummed, levels_of, AllKnown, inside, unknown_from}
 use Rattle.crack_index.proofs.Sides.{tall_sides}
@@ -27,27 +27,27 @@ pub Below-wider : (a b : ℕ) (es : List (ℕ × ℤ)) → a ≤ b → Below a e
 Below-wider a b [] h below = tt
 Below-wider a b (e ∷ es) h below = (omega (arith, below.0), Below-wider a b es h below.1)
 
-pub Rises-right : (xs : List (ℕ × ℤ)) (e : ℕ × ℤ) (ys : List (ℕ × ℤ)) → Rises (xs ++ e ∷ ys) → Rises ys
+pub Rises-right : (xs : List (ℕ × ℤ)) (e : ℕ × ℤ) (ys : List (ℕ × ℤ)) → StartsRise (xs ++ e ∷ ys) → StartsRise ys
 Rises-right [] e ys rises = rises.1
 Rises-right (x ∷ xs) e ys rises = Rises-right xs e ys rises.1
 
-pub Rises-first : (xs : List (ℕ × ℤ)) (e : ℕ × ℤ) (ys : List (ℕ × ℤ)) → Rises (xs ++ e ∷ ys) → e.0 < start_of ys
+pub Rises-first : (xs : List (ℕ × ℤ)) (e : ℕ × ℤ) (ys : List (ℕ × ℤ)) → StartsRise (xs ++ e ∷ ys) → e.0 < lowest_start ys
 Rises-first [] e ys rises = rises.0
 Rises-first (x ∷ xs) e ys rises = Rises-first xs e ys rises.1
 
-pub Rises-start : (xs : List (ℕ × ℤ)) (e : ℕ × ℤ) (ys : List (ℕ × ℤ)) → Rises (xs ++ e ∷ ys) → start_of (xs ++ e ∷ ys) ≤ e.0
+pub Rises-start : (xs : List (ℕ × ℤ)) (e : ℕ × ℤ) (ys : List (ℕ × ℤ)) → StartsRise (xs ++ e ∷ ys) → lowest_start (xs ++ e ∷ ys) ≤ e.0
 Rises-start [] e ys rises = omega arith
 Rises-start (x ∷ xs) e ys rises = let rest = Rises-start xs e ys rises.1 in omega (arith, rises.0)
 
-pub Rises-below : (xs : List (ℕ × ℤ)) (e : ℕ × ℤ) (ys : List (ℕ × ℤ)) → Rises (xs ++ e ∷ ys) → Below e.0 xs
+pub Rises-below : (xs : List (ℕ × ℤ)) (e : ℕ × ℤ) (ys : List (ℕ × ℤ)) → StartsRise (xs ++ e ∷ ys) → Below e.0 xs
 Rises-below [] e ys rises = tt
 Rises-below (x ∷ xs) e ys rises = let start = Rises-start xs e ys rises.1 in (omega (arith, rises.0), Rises-below xs e ys rises.1)
 
-most_start : (es : List (ℕ × ℤ)) → Rises es → start_of es ≤ GREATEST_BOUND
+most_start : (es : List (ℕ × ℤ)) → StartsRise es → lowest_start es ≤ GREATEST_BOUND
 most_start [] rises = omega arith
 most_start (e ∷ es) rises = let most = most_start es rises.1 in omega (arith, rises.0)
 
-pub Rises-left : (xs : List (ℕ × ℤ)) (e : ℕ × ℤ) (ys : List (ℕ × ℤ)) → Rises (xs ++ e ∷ ys) → Rises xs
+pub Rises-left : (xs : List (ℕ × ℤ)) (e : ℕ × ℤ) (ys : List (ℕ × ℤ)) → StartsRise (xs ++ e ∷ ys) → StartsRise xs
 Rises-left [] e ys rises = tt
 Rises-left (x ∷ []) e ys rises = let most = most_start (e ∷ ys) rises.1 in (omega (arith, rises.0), tt)
 Rises-left (x ∷ z ∷ xs) e ys rises = (rises.0, Rises-left (z ∷ xs) e ys rises.1)
@@ -67,7 +67,7 @@ pub or_else-some : {A : Type 0} (o : Option A) (p : A) (before : Option A) → o
 or_else-some None p before = refl
 or_else-some (Some q) p before = refl
 
-pub piece_at-left : (key : ℕ) (xs : List (ℕ × ℤ)) (e : ℕ × ℤ) (ys : List (ℕ × ℤ)) → Rises (xs ++ e ∷ ys) → key < e.0 → piece_at key (xs ++ e ∷ ys) ≡ piece_at key xs
+pub piece_at-left : (key : ℕ) (xs : List (ℕ × ℤ)) (e : ℕ × ℤ) (ys : List (ℕ × ℤ)) → StartsRise (xs ++ e ∷ ys) → key < e.0 → sum_piece_at key (xs ++ e ∷ ys) ≡ sum_piece_at key xs
 piece_at-left key [] e ys rises h = below_all key (e ∷ ys) rises h
 piece_at-left key (x ∷ []) e ys rises h =
     let most = most_start (e ∷ ys) rises.1 in
@@ -77,13 +77,13 @@ piece_at-left key (x ∷ []) e ys rises h =
     ]
 piece_at-left key (x ∷ z ∷ xs) e ys rises h = rw (piece_at-left key (z ∷ xs) e ys rises.1 h) refl
 
-pub piece_at-right : (key : ℕ) (xs : List (ℕ × ℤ)) (e : ℕ × ℤ) (ys : List (ℕ × ℤ)) → Rises (xs ++ e ∷ ys) → key < GREATEST_BOUND → e.0 ≤ key → piece_at key (xs ++ e ∷ ys) ≡ or_else (piece_at key ys) (Some e)
-piece_at-right key [] e ys rises few h = elim (cases_lt key (start_of ys)) [
+pub piece_at-right : (key : ℕ) (xs : List (ℕ × ℤ)) (e : ℕ × ℤ) (ys : List (ℕ × ℤ)) → StartsRise (xs ++ e ∷ ys) → key < GREATEST_BOUND → e.0 ≤ key → sum_piece_at key (xs ++ e ∷ ys) ≡ or_else (sum_piece_at key ys) (Some e)
+piece_at-right key [] e ys rises few h = elim (cases_lt key (lowest_start ys)) [
   | inl l ↦ rw (at_first key e ys h l, below_all key ys rises.1 l) refl
-  | inr l ↦ rw (at_later key e ys l) (found (piece_at key ys) refl l)
+  | inr l ↦ rw (at_later key e ys l) (found (sum_piece_at key ys) refl l)
 ]
   where
-    found : (o : Option (ℕ × ℤ)) → piece_at key ys ≡ o → start_of ys ≤ key → o ≡ or_else o (Some e)
+    found : (o : Option (ℕ × ℤ)) → sum_piece_at key ys ≡ o → lowest_start ys ≤ key → o ≡ or_else o (Some e)
     found None is l = let below = none_below key ys rises.1 few is in absurd (omega arith)
     found (Some p) is l = refl
 piece_at-right key (x ∷ xs) e ys rises few h =
@@ -103,7 +103,7 @@ pub next_or-left : (bound key : ℕ) (xs : List (ℕ × ℤ)) (e : ℕ × ℤ) (
 next_or-left bound key [] e ys h = rw (lt-ltb key e.0 h) refl
 next_or-left bound key (x ∷ xs) e ys h = rw (next_or-left bound key xs e ys h) refl
 
-pub next_or-right : (bound key : ℕ) (xs : List (ℕ × ℤ)) (e : ℕ × ℤ) (ys : List (ℕ × ℤ)) → Rises (xs ++ e ∷ ys) → e.0 ≤ key → next_or bound key (xs ++ e ∷ ys) ≡ next_or bound key ys
+pub next_or-right : (bound key : ℕ) (xs : List (ℕ × ℤ)) (e : ℕ × ℤ) (ys : List (ℕ × ℤ)) → StartsRise (xs ++ e ∷ ys) → e.0 ≤ key → next_or bound key (xs ++ e ∷ ys) ≡ next_or bound key ys
 next_or-right bound key [] e ys rises h = rw (le-ltb key e.0 h) refl
 next_or-right bound key (x ∷ xs) e ys rises h =
     let start = Rises-start xs e ys rises.1 in
@@ -126,12 +126,12 @@ module _ (low high : ℕ) where
   inside-below [] below = refl
   inside-below (x ∷ xs) below = rw (in_below low high x.0 below.0) (inside-below xs below.1)
 
-  pub inside-above : (ys : List (ℕ × ℤ)) → Rises ys → high ≤ start_of ys → inside (record { low = low; high = high }) ys ≡ []
+  pub inside-above : (ys : List (ℕ × ℤ)) → StartsRise ys → high ≤ lowest_start ys → inside (record { low = low; high = high }) ys ≡ []
   inside-above [] rises h = refl
   inside-above (y ∷ ys) rises h = rw (in_above low high y.0 h) (inside-above ys rises.1 (omega (arith, rises.0)))
 
   -- the low end is below all pieces
-  pub inside-low : (ys : List (ℕ × ℤ)) → Rises ys → low ≤ start_of ys → inside (record { low = low; high = high }) ys ≡ inside (record { low = 0; high = high }) ys
+  pub inside-low : (ys : List (ℕ × ℤ)) → StartsRise ys → low ≤ lowest_start ys → inside (record { low = low; high = high }) ys ≡ inside (record { low = 0; high = high }) ys
   inside-low [] rises h = refl
   inside-low (y ∷ ys) rises h = elim (cases_lt y.0 high) [
     | inl k ↦ rw (in_yes low high y.0 h k, in_yes 0 high y.0 (omega arith) k) (ap (λ (r : List (ℕ × ℤ)). y ∷ r) (inside-low ys rises.1 (omega (arith, rises.0))))
@@ -147,7 +147,7 @@ module _ (low high : ℕ) where
   ]
 
   -- all pieces are in the range
-  pub inside-all : (es : List (ℕ × ℤ)) → Rises es → low ≤ start_of es → Below high es → inside (record { low = low; high = high }) es ≡ es
+  pub inside-all : (es : List (ℕ × ℤ)) → StartsRise es → low ≤ lowest_start es → Below high es → inside (record { low = low; high = high }) es ≡ es
   inside-all [] rises h below = refl
   inside-all (e ∷ es) rises h below = rw (in_yes low high e.0 h below.0) (ap (λ (r : List (ℕ × ℤ)). e ∷ r) (inside-all es rises.1 (omega (arith, rises.0)) below.1))
 
@@ -155,10 +155,10 @@ module _ (low high : ℕ) where
   inside-one xs e ys h k = rw (inside-append xs (e ∷ ys), in_yes low high e.0 h k) refl
 
   -- the piece between is below the range, or above it
-  pub inside-right : (xs : List (ℕ × ℤ)) (e : ℕ × ℤ) (ys : List (ℕ × ℤ)) → Rises (xs ++ e ∷ ys) → e.0 < low → inside (record { low = low; high = high }) (xs ++ e ∷ ys) ≡ inside (record { low = low; high = high }) ys
+  pub inside-right : (xs : List (ℕ × ℤ)) (e : ℕ × ℤ) (ys : List (ℕ × ℤ)) → StartsRise (xs ++ e ∷ ys) → e.0 < low → inside (record { low = low; high = high }) (xs ++ e ∷ ys) ≡ inside (record { low = low; high = high }) ys
   inside-right xs e ys rises h = rw (inside-append xs (e ∷ ys), inside-below xs (Below-wider e.0 low xs (omega arith) (Rises-below xs e ys rises)), in_below low high e.0 h) refl
 
-  pub inside-left : (xs : List (ℕ × ℤ)) (e : ℕ × ℤ) (ys : List (ℕ × ℤ)) → Rises (xs ++ e ∷ ys) → high ≤ e.0 → inside (record { low = low; high = high }) (xs ++ e ∷ ys) ≡ inside (record { low = low; high = high }) xs
+  pub inside-left : (xs : List (ℕ × ℤ)) (e : ℕ × ℤ) (ys : List (ℕ × ℤ)) → StartsRise (xs ++ e ∷ ys) → high ≤ e.0 → inside (record { low = low; high = high }) (xs ++ e ∷ ys) ≡ inside (record { low = low; high = high }) xs
   inside-left xs e ys rises h =
       let first = Rises-first xs e ys rises in
       rw (inside-append xs (e ∷ ys), in_above low high e.0 h, inside-above ys (Rises-right xs e ys rises) (omega arith)) (append_nil (inside (record { low = low; high = high }) xs))
@@ -167,23 +167,23 @@ module _ (low high : ℕ) where
       append_nil [] = refl
       append_nil (z ∷ zs) = ap (λ (r : List (ℕ × ℤ)). z ∷ r) (append_nil zs)
 
-pub all-below : (es : List (ℕ × ℤ)) → Rises es → Below GREATEST_BOUND es
+pub all-below : (es : List (ℕ × ℤ)) → StartsRise es → Below GREATEST_BOUND es
 all-below [] rises = tt
 all-below (e ∷ es) rises = let most = most_start es rises.1 in (omega (arith, rises.0), all-below es rises.1)
 
-pub inside-from : (first : ℕ) (xs : List (ℕ × ℤ)) (e : ℕ × ℤ) (ys : List (ℕ × ℤ)) → Rises (xs ++ e ∷ ys) → first ≤ e.0 → inside (record { low = first; high = GREATEST_BOUND }) (xs ++ e ∷ ys) ≡ inside (record { low = first; high = GREATEST_BOUND }) xs ++ e ∷ ys
+pub inside-from : (first : ℕ) (xs : List (ℕ × ℤ)) (e : ℕ × ℤ) (ys : List (ℕ × ℤ)) → StartsRise (xs ++ e ∷ ys) → first ≤ e.0 → inside (record { low = first; high = GREATEST_BOUND }) (xs ++ e ∷ ys) ≡ inside (record { low = first; high = GREATEST_BOUND }) xs ++ e ∷ ys
 inside-from first xs e ys rises h =
     let up = Rises-first xs e ys rises in
     let right = Rises-right xs e ys rises in
     let most = most_start ys right in
     rw (inside-one first GREATEST_BOUND xs e ys h (omega arith), inside-all first GREATEST_BOUND ys right (omega arith) (all-below ys right)) refl
 
-pub inside-to : (high : ℕ) (xs : List (ℕ × ℤ)) (e : ℕ × ℤ) (ys : List (ℕ × ℤ)) → Rises (xs ++ e ∷ ys) → e.0 < high → inside (record { low = 0; high = high }) (xs ++ e ∷ ys) ≡ xs ++ e ∷ inside (record { low = 0; high = high }) ys
+pub inside-to : (high : ℕ) (xs : List (ℕ × ℤ)) (e : ℕ × ℤ) (ys : List (ℕ × ℤ)) → StartsRise (xs ++ e ∷ ys) → e.0 < high → inside (record { low = 0; high = high }) (xs ++ e ∷ ys) ≡ xs ++ e ∷ inside (record { low = 0; high = high }) ys
 inside-to high xs e ys rises h =
     let left = Rises-left xs e ys rises in
     rw (inside-one 0 high xs e ys (omega arith) h, inside-all 0 high xs left (omega arith) (Below-wider e.0 high xs (omega arith) (Rises-below xs e ys rises))) refl
 
-pub inside-both : (low high : ℕ) (xs : List (ℕ × ℤ)) (e : ℕ × ℤ) (ys : List (ℕ × ℤ)) → Rises (xs ++ e ∷ ys) → low ≤ e.0 → e.0 < high → high ≤ GREATEST_BOUND → inside (record { low = low; high = high }) (xs ++ e ∷ ys) ≡ inside (record { low = low; high = GREATEST_BOUND }) xs ++ e ∷ inside (record { low = 0; high = high }) ys
+pub inside-both : (low high : ℕ) (xs : List (ℕ × ℤ)) (e : ℕ × ℤ) (ys : List (ℕ × ℤ)) → StartsRise (xs ++ e ∷ ys) → low ≤ e.0 → e.0 < high → high ≤ GREATEST_BOUND → inside (record { low = low; high = high }) (xs ++ e ∷ ys) ≡ inside (record { low = low; high = GREATEST_BOUND }) xs ++ e ∷ inside (record { low = 0; high = high }) ys
 inside-both low high xs e ys rises h k few =
     let up = Rises-first xs e ys rises in
     rw (inside-one low high xs e ys h k, inside-high low high xs (Below-wider e.0 high xs (omega arith) (Rises-below xs e ys rises)) few, inside-low low high ys (Rises-right xs e ys rises) (omega arith)) refl
@@ -206,7 +206,7 @@ pub unknown-below : (first : ℕ) (es : List (ℕ × ℤ)) → Below first es �
 unknown-below first [] below = refl
 unknown-below first (e ∷ es) below = rw (lt-leb first e.0 below.0) (unknown-below first es below.1)
 
-pub unknown-right : (first : ℕ) (xs : List (ℕ × ℤ)) (e : ℕ × ℤ) (ys : List (ℕ × ℤ)) → Rises (xs ++ e ∷ ys) → e.0 < first → unknown_from first (xs ++ e ∷ ys) ≡ unknown_from first ys
+pub unknown-right : (first : ℕ) (xs : List (ℕ × ℤ)) (e : ℕ × ℤ) (ys : List (ℕ × ℤ)) → StartsRise (xs ++ e ∷ ys) → e.0 < first → unknown_from first (xs ++ e ∷ ys) ≡ unknown_from first ys
 unknown-right first xs e ys rises h =
     rw (unknown-append first xs (e ∷ ys), unknown-below first xs (Below-wider e.0 first xs (omega arith) (Rises-below xs e ys rises)), lt-leb first e.0 h) refl
 
@@ -231,13 +231,13 @@ put-left key sum (x ∷ xs) e ys h = elim (cases_lt key x.0) [
   ]
 ]
 
-pub put-right : (key : ℕ) (sum : ℤ) (xs : List (ℕ × ℤ)) (e : ℕ × ℤ) (ys : List (ℕ × ℤ)) → Rises (xs ++ e ∷ ys) → e.0 < key → put key sum (xs ++ e ∷ ys) ≡ xs ++ e ∷ put key sum ys
+pub put-right : (key : ℕ) (sum : ℤ) (xs : List (ℕ × ℤ)) (e : ℕ × ℤ) (ys : List (ℕ × ℤ)) → StartsRise (xs ++ e ∷ ys) → e.0 < key → put key sum (xs ++ e ∷ ys) ≡ xs ++ e ∷ put key sum ys
 put-right key sum [] e ys rises h = put_later key sum e ys h
 put-right key sum (x ∷ xs) e ys rises h =
     let start = Rises-start xs e ys rises.1 in
     rw (put_later key sum x (xs ++ e ∷ ys) (omega (arith, rises.0))) (ap (λ (r : List (ℕ × ℤ)). x ∷ r) (put-right key sum xs e ys rises.1 h))
 
-pub end-left : (bound : ℕ) (xs : List (ℕ × ℤ)) (e : ℕ × ℤ) (ys : List (ℕ × ℤ)) → Rises (xs ++ e ∷ ys) → bound < e.0 → IsEnd bound xs → IsEnd bound (xs ++ e ∷ ys)
+pub end-left : (bound : ℕ) (xs : List (ℕ × ℤ)) (e : ℕ × ℤ) (ys : List (ℕ × ℤ)) → StartsRise (xs ++ e ∷ ys) → bound < e.0 → IsEnd bound xs → IsEnd bound (xs ++ e ∷ ys)
 end-left bound [] e ys rises h is = let most = most_start ys rises.1 in absurd (omega (arith, rises.0))
 end-left bound (x ∷ xs) e ys rises h (inl is) = inl is
 end-left bound (x ∷ xs) e ys rises h (inr is) = inr (end-left bound xs e ys rises.1 h is)
@@ -258,24 +258,24 @@ end-apart key xs e ys apart h = elim (cases_eq key e.0) [
 
 -- Another sum
 
-pub given-above : (key : ℕ) (sum : ℤ) (es : List (ℕ × ℤ)) → Rises es → key < start_of es → given key sum es ≡ es
+pub given-above : (key : ℕ) (sum : ℤ) (es : List (ℕ × ℤ)) → StartsRise es → key < lowest_start es → given key sum es ≡ es
 given-above key sum [] rises h = refl
 given-above key sum (e ∷ es) rises h = rw (given_apart key sum e es (λ s. absurd (omega arith))) (ap (λ (r : List (ℕ × ℤ)). e ∷ r) (given-above key sum es rises.1 (omega (arith, rises.0))))
 
-pub given-left : (key : ℕ) (sum : ℤ) (xs : List (ℕ × ℤ)) (e : ℕ × ℤ) (ys : List (ℕ × ℤ)) → Rises (xs ++ e ∷ ys) → key < e.0 → given key sum (xs ++ e ∷ ys) ≡ given key sum xs ++ e ∷ ys
+pub given-left : (key : ℕ) (sum : ℤ) (xs : List (ℕ × ℤ)) (e : ℕ × ℤ) (ys : List (ℕ × ℤ)) → StartsRise (xs ++ e ∷ ys) → key < e.0 → given key sum (xs ++ e ∷ ys) ≡ given key sum xs ++ e ∷ ys
 given-left key sum [] e ys rises h = given-above key sum (e ∷ ys) rises h
 given-left key sum (x ∷ xs) e ys rises h = elim (cases_eq key x.0) [
   | inl same ↦ rw (given_same key sum x (xs ++ e ∷ ys) same, given_same key sum x xs same) refl
   | inr apart ↦ rw (given_apart key sum x (xs ++ e ∷ ys) apart, given_apart key sum x xs apart) (ap (λ (r : List (ℕ × ℤ)). x ∷ r) (given-left key sum xs e ys rises.1 h))
 ]
 
-pub given-right : (key : ℕ) (sum : ℤ) (xs : List (ℕ × ℤ)) (e : ℕ × ℤ) (ys : List (ℕ × ℤ)) → Rises (xs ++ e ∷ ys) → e.0 < key → given key sum (xs ++ e ∷ ys) ≡ xs ++ e ∷ given key sum ys
+pub given-right : (key : ℕ) (sum : ℤ) (xs : List (ℕ × ℤ)) (e : ℕ × ℤ) (ys : List (ℕ × ℤ)) → StartsRise (xs ++ e ∷ ys) → e.0 < key → given key sum (xs ++ e ∷ ys) ≡ xs ++ e ∷ given key sum ys
 given-right key sum [] e ys rises h = given_apart key sum e ys (λ s. absurd (omega arith))
 given-right key sum (x ∷ xs) e ys rises h =
     let start = Rises-start xs e ys rises.1 in
     rw (given_apart key sum x (xs ++ e ∷ ys) (λ s. absurd (omega (arith, rises.0)))) (ap (λ (r : List (ℕ × ℤ)). x ∷ r) (given-right key sum xs e ys rises.1 h))
 
-pub given-here : (key : ℕ) (sum : ℤ) (xs : List (ℕ × ℤ)) (e : ℕ × ℤ) (ys : List (ℕ × ℤ)) → Rises (xs ++ e ∷ ys) → key ≡ e.0 → given key sum (xs ++ e ∷ ys) ≡ xs ++ (e.0, sum) ∷ ys
+pub given-here : (key : ℕ) (sum : ℤ) (xs : List (ℕ × ℤ)) (e : ℕ × ℤ) (ys : List (ℕ × ℤ)) → StartsRise (xs ++ e ∷ ys) → key ≡ e.0 → given key sum (xs ++ e ∷ ys) ≡ xs ++ (e.0, sum) ∷ ys
 given-here key sum [] e ys rises h = given_same key sum e ys h
 given-here key sum (x ∷ xs) e ys rises h =
     let start = Rises-start xs e ys rises.1 in
@@ -290,9 +290,9 @@ length-given key sum (e ∷ es) = elim (cases_eq key e.0) [
 
 -- a node after a sum below it, or its own, was given
 pub IsSummed-given : (key : ℕ) (sum : ℤ) (l l2 r r2 : Option (Box Summed Global)) (e e2 : ℕ × ℤ) (total total2 : ℤ) (height : ℕ) → levels_of l2 ≡ levels_of l → levels_of r2 ≡ levels_of r
-    → entries_of l2 ++ e2 ∷ entries_of r2 ≡ given key sum (entries_of l ++ e ∷ entries_of r) → IsTotal (entries_of l2 ++ e2 ∷ entries_of r2) total2 → IsSummed l e r total height → IsSummed l2 e2 r2 total2 height
+    → entries_in_tree l2 ++ e2 ∷ entries_in_tree r2 ≡ given key sum (entries_in_tree l ++ e ∷ entries_in_tree r) → IsTotal (entries_in_tree l2 ++ e2 ∷ entries_in_tree r2) total2 → IsSummed l e r total height → IsSummed l2 e2 r2 total2 height
 IsSummed-given key sum l l2 r r2 e e2 total total2 height left right is summed old =
-    let long : length (entries_of l2 ++ e2 ∷ entries_of r2) ≡ length (entries_of l ++ e ∷ entries_of r) = ap (λ (xs : List (ℕ × ℤ)). length xs) is ∙ length-given key sum (entries_of l ++ e ∷ entries_of r) in
+    let long : length (entries_in_tree l2 ++ e2 ∷ entries_in_tree r2) ≡ length (entries_in_tree l ++ e ∷ entries_in_tree r) = ap (λ (xs : List (ℕ × ℤ)). length xs) is ∙ length-given key sum (entries_in_tree l ++ e ∷ entries_in_tree r) in
     record {
       high = rw (left, right) old.high;
       even = rw (left, right) old.even;
@@ -308,24 +308,24 @@ dropped_apart key e es h = rw (ne_eqb key e.0 h) refl
 dropped_same : (key : ℕ) (e : ℕ × ℤ) (es : List (ℕ × ℤ)) → key ≡ e.0 → dropped key (e ∷ es) ≡ es
 dropped_same key e es h = rw (eq-eqb key e.0 h) refl
 
-dropped-above : (key : ℕ) (es : List (ℕ × ℤ)) → Rises es → key < start_of es → dropped key es ≡ es
+dropped-above : (key : ℕ) (es : List (ℕ × ℤ)) → StartsRise es → key < lowest_start es → dropped key es ≡ es
 dropped-above key [] rises h = refl
 dropped-above key (e ∷ es) rises h = rw (dropped_apart key e es (λ s. absurd (omega arith))) (ap (λ (r : List (ℕ × ℤ)). e ∷ r) (dropped-above key es rises.1 (omega (arith, rises.0))))
 
-pub dropped-left : (key : ℕ) (xs : List (ℕ × ℤ)) (e : ℕ × ℤ) (ys : List (ℕ × ℤ)) → Rises (xs ++ e ∷ ys) → key < e.0 → dropped key (xs ++ e ∷ ys) ≡ dropped key xs ++ e ∷ ys
+pub dropped-left : (key : ℕ) (xs : List (ℕ × ℤ)) (e : ℕ × ℤ) (ys : List (ℕ × ℤ)) → StartsRise (xs ++ e ∷ ys) → key < e.0 → dropped key (xs ++ e ∷ ys) ≡ dropped key xs ++ e ∷ ys
 dropped-left key [] e ys rises h = dropped-above key (e ∷ ys) rises h
 dropped-left key (x ∷ xs) e ys rises h = elim (cases_eq key x.0) [
   | inl same ↦ rw (dropped_same key x (xs ++ e ∷ ys) same, dropped_same key x xs same) refl
   | inr apart ↦ rw (dropped_apart key x (xs ++ e ∷ ys) apart, dropped_apart key x xs apart) (ap (λ (r : List (ℕ × ℤ)). x ∷ r) (dropped-left key xs e ys rises.1 h))
 ]
 
-pub dropped-right : (key : ℕ) (xs : List (ℕ × ℤ)) (e : ℕ × ℤ) (ys : List (ℕ × ℤ)) → Rises (xs ++ e ∷ ys) → e.0 < key → dropped key (xs ++ e ∷ ys) ≡ xs ++ e ∷ dropped key ys
+pub dropped-right : (key : ℕ) (xs : List (ℕ × ℤ)) (e : ℕ × ℤ) (ys : List (ℕ × ℤ)) → StartsRise (xs ++ e ∷ ys) → e.0 < key → dropped key (xs ++ e ∷ ys) ≡ xs ++ e ∷ dropped key ys
 dropped-right key [] e ys rises h = dropped_apart key e ys (λ s. absurd (omega arith))
 dropped-right key (x ∷ xs) e ys rises h =
     let start = Rises-start xs e ys rises.1 in
     rw (dropped_apart key x (xs ++ e ∷ ys) (λ s. absurd (omega (arith, rises.0)))) (ap (λ (r : List (ℕ × ℤ)). x ∷ r) (dropped-right key xs e ys rises.1 h))
 
-pub dropped-here : (key : ℕ) (xs : List (ℕ × ℤ)) (e : ℕ × ℤ) (ys : List (ℕ × ℤ)) → Rises (xs ++ e ∷ ys) → key ≡ e.0 → dropped key (xs ++ e ∷ ys) ≡ xs ++ ys
+pub dropped-here : (key : ℕ) (xs : List (ℕ × ℤ)) (e : ℕ × ℤ) (ys : List (ℕ × ℤ)) → StartsRise (xs ++ e ∷ ys) → key ≡ e.0 → dropped key (xs ++ e ∷ ys) ≡ xs ++ ys
 dropped-here key [] e ys rises h = dropped_same key e ys h
 dropped-here key (x ∷ xs) e ys rises h =
     let start = Rises-start xs e ys rises.1 in

@@ -10,7 +10,7 @@ use Rattle.crack_index.specs.declared.mark.Mark.{Mark}
 use Rattle.crack_index.specs.declared.walk.Way.{Way}
 use Rattle.crack_index.specs.Marks.{InOrder, Rising}
 use Rattle.crack_index.specs.Steps.{StepsUp, StepsDown, Goes, one_up, one_down}
-use Rattle.crack_index.specs.Trees.{Grown, marks_of}
+use Rattle.crack_index.specs.Trees.{Grown, marks_in_tree}
 use Rattle.crack_index.specs.Keeps.{height_of, IsBalanced}
 use Rattle.crack_index.proofs.Sides.{Rising-before, Rising-behind}
 
@@ -217,18 +217,18 @@ right-of P [] m r all = All-tail P m r all
 right-of P (x ∷ l) m r all = right-of P l m r (All-tail P x (l ++ m ∷ r) all)
 
 -- what all marks of a node are, those of its sides and its own are
-module _ (P : Mark → Type 0) (l : Option (Box Grown Global)) (m : Mark) (r : Option (Box Grown Global)) (whole : List Mark) (is : marks_of l ++ m ∷ marks_of r ≡ whole) (all : All P whole) where
-  pub All-left : All P (marks_of l)
-  All-left = left-of P (marks_of l) m (marks_of r) (rw (← is) at all)
+module _ (P : Mark → Type 0) (l : Option (Box Grown Global)) (m : Mark) (r : Option (Box Grown Global)) (whole : List Mark) (is : marks_in_tree l ++ m ∷ marks_in_tree r ≡ whole) (all : All P whole) where
+  pub All-left : All P (marks_in_tree l)
+  All-left = left-of P (marks_in_tree l) m (marks_in_tree r) (rw (← is) at all)
 
   pub All-here : P m
-  All-here = here-of P (marks_of l) m (marks_of r) (rw (← is) at all)
+  All-here = here-of P (marks_in_tree l) m (marks_in_tree r) (rw (← is) at all)
 
-  pub All-right : All P (marks_of r)
-  All-right = right-of P (marks_of l) m (marks_of r) (rw (← is) at all)
+  pub All-right : All P (marks_in_tree r)
+  All-right = right-of P (marks_in_tree l) m (marks_in_tree r) (rw (← is) at all)
 
-pub All-some : (P : Mark → Type 0) (o : Option (Box Grown Global)) (box : Box Grown Global) (n : Grown) → o ≡ Some box → n ≡ box.value → All P (marks_of o) → All P n.marks
-All-some P o box n is at all = subst (λ (k : Grown). All P k.marks) (sym at) (subst (λ (p : Option (Box Grown Global)). All P (marks_of p)) is all)
+pub All-some : (P : Mark → Type 0) (o : Option (Box Grown Global)) (box : Box Grown Global) (n : Grown) → o ≡ Some box → n ≡ box.value → All P (marks_in_tree o) → All P n.marks
+All-some P o box n is at all = subst (λ (k : Grown). All P k.marks) (sym at) (subst (λ (p : Option (Box Grown Global)). All P (marks_in_tree p)) is all)
 
 -- if the mark is above a number, so are those to the right of it, and if it isn't, neither are those to the left
 pub above-right : (number : ℕ) (l : List Mark) (m : Mark) (r : List Mark) → Rising (l ++ m ∷ r) → number < m.bound.0 → All (λ n. number < n.bound.0) r
@@ -247,12 +247,12 @@ none-is (Some e) is = absurd (cc)
 
 -- the result of a walk over a side of a node: it visited the marks in its own order, and the side is as high as before
 pub record Walked {V : Type 0} (step : Mark → Way → V → Mark → Way → V → Type 0) (turn : List Mark → List Mark) (o o' : Option (Box Grown Global)) (a b : Way) (u v : V) : Type 0 where
-  pub goes : Goes step (turn (marks_of o)) a u (turn (marks_of o')) b v
+  pub goes : Goes step (turn (marks_in_tree o)) a u (turn (marks_in_tree o')) b v
   pub height : height_of o' ≡ height_of o
 
 -- the result for the side that it visited first, and for the mark after it; the walk goes on
 pub record Neared {V : Type 0} (step : Mark → Way → V → Mark → Way → V → Type 0) (turn : List Mark → List Mark) (o o' : Option (Box Grown Global)) (m m' : Mark) (a b : Way) (u v : V) : Type 0 where
-  pub goes : Goes step (turn (marks_of o) ++ m ∷ []) a u (turn (marks_of o') ++ m' ∷ []) b v
+  pub goes : Goes step (turn (marks_in_tree o) ++ m ∷ []) a u (turn (marks_in_tree o') ++ m' ∷ []) b v
   pub height : height_of o' ≡ height_of o
   pub going : b.ended ≡ None
 
@@ -265,14 +265,14 @@ module _ {V : Type 0} (step : Mark → Way → V → Mark → Way → V → Type
 
   pub Neared-stepped : (o o' : Option (Box Grown Global)) (m m' : Mark) (a b c : Way) (u v w : V) → Walked step turn o o' a b u v → step m b v m' c w → is_some c.ended ≡ false → Neared step turn o o' m m' a c u w
   Neared-stepped o o' m m' a b c u v w walked at going = record {
-    goes = Goes-append step (turn (marks_of o)) (turn (marks_of o')) (m ∷ []) (m' ∷ []) a b c u v w walked.goes (Goes.more m m' [] [] b c c v w w at (Goes.here c w));
+    goes = Goes-append step (turn (marks_in_tree o)) (turn (marks_in_tree o')) (m ∷ []) (m' ∷ []) a b c u v w walked.goes (Goes.more m m' [] [] b c c v w w at (Goes.here c w));
     height = walked.height;
     going = none-is c.ended going;
   }
 
-  Neared-apart : (o : Option (Box Grown Global)) (m : Mark) (a : Way) (u : V) → All (λ n. step n a u n a u) (turn (marks_of o)) → step m a u m a u → a.ended ≡ None → Neared step turn o o m m a a u u
+  Neared-apart : (o : Option (Box Grown Global)) (m : Mark) (a : Way) (u : V) → All (λ n. step n a u n a u) (turn (marks_in_tree o)) → step m a u m a u → a.ended ≡ None → Neared step turn o o m m a a u u
   Neared-apart o m a u all at going = record {
-    goes = Goes-append step (turn (marks_of o)) (turn (marks_of o)) (m ∷ []) (m ∷ []) a a a u u u (Goes-stay step (turn (marks_of o)) a u all) (Goes.more m m [] [] a a a u u u at (Goes.here a u));
+    goes = Goes-append step (turn (marks_in_tree o)) (turn (marks_in_tree o)) (m ∷ []) (m ∷ []) a a a u u u (Goes-stay step (turn (marks_in_tree o)) a u all) (Goes.more m m [] [] a a a u u u at (Goes.here a u));
     height = refl;
     going = going;
   }
@@ -283,47 +283,47 @@ ahead ms = ms
 
 -- a node on a walk up: the left side and no further, as far as the mark, the right side alone, and the whole of it
 module _ {V : Type 0} (visits : V → ℕ → Bool → V → Type 0) (number : ℕ) (l l' : Option (Box Grown Global)) (m m' : Mark) (r r' : Option (Box Grown Global)) where
-  pub up-near : (a b : Way) (u v : V) → Walked (StepsUp visits number) ahead l l' a b u v → is_some b.ended ≡ true → Goes (StepsUp visits number) (marks_of l ++ m ∷ marks_of r) a u (marks_of l' ++ m ∷ marks_of r) b v
+  pub up-near : (a b : Way) (u v : V) → Walked (StepsUp visits number) ahead l l' a b u v → is_some b.ended ≡ true → Goes (StepsUp visits number) (marks_in_tree l ++ m ∷ marks_in_tree r) a u (marks_in_tree l' ++ m ∷ marks_in_tree r) b v
   up-near a b u v walked ended =
       let e = some-is b.ended ended in
-      Goes-near (StepsUp visits number) (marks_of l) (marks_of l') m (marks_of r) a b u v walked.goes (λ n. StepsUp.over n e.0 b v e.1)
+      Goes-near (StepsUp visits number) (marks_in_tree l) (marks_in_tree l') m (marks_in_tree r) a b u v walked.goes (λ n. StepsUp.over n e.0 b v e.1)
 
-  pub up-middle : (a b c : Way) (u v w : V) → Walked (StepsUp visits number) ahead l l' a b u v → StepsUp visits number m b v m' c w → is_some c.ended ≡ true → Goes (StepsUp visits number) (marks_of l ++ m ∷ marks_of r) a u (marks_of l' ++ m' ∷ marks_of r) c w
+  pub up-middle : (a b c : Way) (u v w : V) → Walked (StepsUp visits number) ahead l l' a b u v → StepsUp visits number m b v m' c w → is_some c.ended ≡ true → Goes (StepsUp visits number) (marks_in_tree l ++ m ∷ marks_in_tree r) a u (marks_in_tree l' ++ m' ∷ marks_in_tree r) c w
   up-middle a b c u v w walked at ended =
       let e = some-is c.ended ended in
-      Goes-middle (StepsUp visits number) (marks_of l) (marks_of l') m m' (marks_of r) a b c u v w walked.goes at (λ n. StepsUp.over n e.0 c w e.1)
+      Goes-middle (StepsUp visits number) (marks_in_tree l) (marks_in_tree l') m m' (marks_in_tree r) a b c u v w walked.goes at (λ n. StepsUp.over n e.0 c w e.1)
 
-  pub up-apart : (a : Way) (u : V) → Rising (marks_of l ++ m ∷ marks_of r) → m.bound.0 ≤ number → a.ended ≡ None → Neared (StepsUp visits number) ahead l l m m a a u u
+  pub up-apart : (a : Way) (u : V) → Rising (marks_in_tree l ++ m ∷ marks_in_tree r) → m.bound.0 ≤ number → a.ended ≡ None → Neared (StepsUp visits number) ahead l l m m a a u u
   up-apart a u rising below going =
-      Neared-apart (StepsUp visits number) ahead l m a u (λ k d h. StepsUp.apart (get_or (marks_of l) k d) a u (omega (arith, (Rising-before (marks_of l) m (marks_of r) rising k d h).bounds, below))) (StepsUp.apart m a u below) going
+      Neared-apart (StepsUp visits number) ahead l m a u (λ k d h. StepsUp.apart (get_or (marks_in_tree l) k d) a u (omega (arith, (Rising-before (marks_in_tree l) m (marks_in_tree r) rising k d h).bounds, below))) (StepsUp.apart m a u below) going
 
-  pub up-whole : (a b c : Way) (u v w : V) → Neared (StepsUp visits number) ahead l l' m m' a b u v → Walked (StepsUp visits number) ahead r r' b c v w → Goes (StepsUp visits number) (marks_of l ++ m ∷ marks_of r) a u (marks_of l' ++ m' ∷ marks_of r') c w
+  pub up-whole : (a b c : Way) (u v w : V) → Neared (StepsUp visits number) ahead l l' m m' a b u v → Walked (StepsUp visits number) ahead r r' b c v w → Goes (StepsUp visits number) (marks_in_tree l ++ m ∷ marks_in_tree r) a u (marks_in_tree l' ++ m' ∷ marks_in_tree r') c w
   up-whole a b c u v w near far =
-      rw (append_assoc (marks_of l) (m ∷ []) (marks_of r), append_assoc (marks_of l') (m' ∷ []) (marks_of r')) at (Goes-append (StepsUp visits number) (marks_of l ++ m ∷ []) (marks_of l' ++ m' ∷ []) (marks_of r) (marks_of r') a b c u v w near.goes far.goes)
+      rw (append_assoc (marks_in_tree l) (m ∷ []) (marks_in_tree r), append_assoc (marks_in_tree l') (m' ∷ []) (marks_in_tree r')) at (Goes-append (StepsUp visits number) (marks_in_tree l ++ m ∷ []) (marks_in_tree l' ++ m' ∷ []) (marks_in_tree r) (marks_in_tree r') a b c u v w near.goes far.goes)
 
 -- the same for a walk down, from the right side
 module _ {V : Type 0} (visits : V → ℕ → Bool → V → Type 0) (number : ℕ) (l l' : Option (Box Grown Global)) (m m' : Mark) (r r' : Option (Box Grown Global)) where
-  pub down-near : (a b : Way) (u v : V) → Walked (StepsDown visits number) reverse r r' a b u v → is_some b.ended ≡ true → Goes (StepsDown visits number) (reverse (marks_of l ++ m ∷ marks_of r)) a u (reverse (marks_of l ++ m ∷ marks_of r')) b v
+  pub down-near : (a b : Way) (u v : V) → Walked (StepsDown visits number) reverse r r' a b u v → is_some b.ended ≡ true → Goes (StepsDown visits number) (reverse (marks_in_tree l ++ m ∷ marks_in_tree r)) a u (reverse (marks_in_tree l ++ m ∷ marks_in_tree r')) b v
   down-near a b u v walked ended =
       let e = some-is b.ended ended in
-      Goes-back (StepsDown visits number) (marks_of l) (marks_of l) m m (marks_of r) (marks_of r') a b u v (Goes-near (StepsDown visits number) (reverse (marks_of r)) (reverse (marks_of r')) m (reverse (marks_of l)) a b u v walked.goes (λ n. StepsDown.over n e.0 b v e.1))
+      Goes-back (StepsDown visits number) (marks_in_tree l) (marks_in_tree l) m m (marks_in_tree r) (marks_in_tree r') a b u v (Goes-near (StepsDown visits number) (reverse (marks_in_tree r)) (reverse (marks_in_tree r')) m (reverse (marks_in_tree l)) a b u v walked.goes (λ n. StepsDown.over n e.0 b v e.1))
 
-  pub down-middle : (a b c : Way) (u v w : V) → Walked (StepsDown visits number) reverse r r' a b u v → StepsDown visits number m b v m' c w → is_some c.ended ≡ true → Goes (StepsDown visits number) (reverse (marks_of l ++ m ∷ marks_of r)) a u (reverse (marks_of l ++ m' ∷ marks_of r')) c w
+  pub down-middle : (a b c : Way) (u v w : V) → Walked (StepsDown visits number) reverse r r' a b u v → StepsDown visits number m b v m' c w → is_some c.ended ≡ true → Goes (StepsDown visits number) (reverse (marks_in_tree l ++ m ∷ marks_in_tree r)) a u (reverse (marks_in_tree l ++ m' ∷ marks_in_tree r')) c w
   down-middle a b c u v w walked at ended =
       let e = some-is c.ended ended in
-      Goes-back (StepsDown visits number) (marks_of l) (marks_of l) m m' (marks_of r) (marks_of r') a c u w (Goes-middle (StepsDown visits number) (reverse (marks_of r)) (reverse (marks_of r')) m m' (reverse (marks_of l)) a b c u v w walked.goes at (λ n. StepsDown.over n e.0 c w e.1))
+      Goes-back (StepsDown visits number) (marks_in_tree l) (marks_in_tree l) m m' (marks_in_tree r) (marks_in_tree r') a c u w (Goes-middle (StepsDown visits number) (reverse (marks_in_tree r)) (reverse (marks_in_tree r')) m m' (reverse (marks_in_tree l)) a b c u v w walked.goes at (λ n. StepsDown.over n e.0 c w e.1))
 
-  pub down-apart : (a : Way) (u : V) → Rising (marks_of l ++ m ∷ marks_of r) → number < m.bound.0 → a.ended ≡ None → Neared (StepsDown visits number) reverse r r m m a a u u
+  pub down-apart : (a : Way) (u : V) → Rising (marks_in_tree l ++ m ∷ marks_in_tree r) → number < m.bound.0 → a.ended ≡ None → Neared (StepsDown visits number) reverse r r m m a a u u
   down-apart a u rising above going =
-      Neared-apart (StepsDown visits number) reverse r m a u (All-reverse (λ n. StepsDown visits number n a u n a u) (marks_of r) (λ k d h. StepsDown.apart (get_or (marks_of r) k d) a u (omega (arith, (Rising-behind (marks_of l) m (marks_of r) rising k d h).bounds, above)))) (StepsDown.apart m a u above) going
+      Neared-apart (StepsDown visits number) reverse r m a u (All-reverse (λ n. StepsDown visits number n a u n a u) (marks_in_tree r) (λ k d h. StepsDown.apart (get_or (marks_in_tree r) k d) a u (omega (arith, (Rising-behind (marks_in_tree l) m (marks_in_tree r) rising k d h).bounds, above)))) (StepsDown.apart m a u above) going
 
-  pub down-whole : (a b c : Way) (u v w : V) → Neared (StepsDown visits number) reverse r r' m m' a b u v → Walked (StepsDown visits number) reverse l l' b c v w → Goes (StepsDown visits number) (reverse (marks_of l ++ m ∷ marks_of r)) a u (reverse (marks_of l' ++ m' ∷ marks_of r')) c w
+  pub down-whole : (a b c : Way) (u v w : V) → Neared (StepsDown visits number) reverse r r' m m' a b u v → Walked (StepsDown visits number) reverse l l' b c v w → Goes (StepsDown visits number) (reverse (marks_in_tree l ++ m ∷ marks_in_tree r)) a u (reverse (marks_in_tree l' ++ m' ∷ marks_in_tree r')) c w
   down-whole a b c u v w near far =
-      Goes-back (StepsDown visits number) (marks_of l) (marks_of l') m m' (marks_of r) (marks_of r') a c u w
-      (rw (append_assoc (reverse (marks_of r)) (m ∷ []) (reverse (marks_of l)), append_assoc (reverse (marks_of r')) (m' ∷ []) (reverse (marks_of l'))) at (Goes-append (StepsDown visits number) (reverse (marks_of r) ++ m ∷ []) (reverse (marks_of r') ++ m' ∷ []) (reverse (marks_of l)) (reverse (marks_of l')) a b c u v w near.goes far.goes))
+      Goes-back (StepsDown visits number) (marks_in_tree l) (marks_in_tree l') m m' (marks_in_tree r) (marks_in_tree r') a c u w
+      (rw (append_assoc (reverse (marks_in_tree r)) (m ∷ []) (reverse (marks_in_tree l)), append_assoc (reverse (marks_in_tree r')) (m' ∷ []) (reverse (marks_in_tree l'))) at (Goes-append (StepsDown visits number) (reverse (marks_in_tree r) ++ m ∷ []) (reverse (marks_in_tree r') ++ m' ∷ []) (reverse (marks_in_tree l)) (reverse (marks_in_tree l')) a b c u v w near.goes far.goes))
 
 -- the node is as balanced as before
-pub IsBalanced-walked : (l l2 : Option (Box Grown Global)) (m m2 : Mark) (r r2 : Option (Box Grown Global)) (h : ℕ) → Rising (marks_of l2 ++ m2 ∷ marks_of r2) → length (marks_of l2 ++ m2 ∷ marks_of r2) ≡ length (marks_of l ++ m ∷ marks_of r)
+pub IsBalanced-walked : (l l2 : Option (Box Grown Global)) (m m2 : Mark) (r r2 : Option (Box Grown Global)) (h : ℕ) → Rising (marks_in_tree l2 ++ m2 ∷ marks_in_tree r2) → length (marks_in_tree l2 ++ m2 ∷ marks_in_tree r2) ≡ length (marks_in_tree l ++ m ∷ marks_in_tree r)
     → height_of l2 ≡ height_of l → height_of r2 ≡ height_of r → IsBalanced l m r h → IsBalanced l2 m2 r2 h
 IsBalanced-walked l l2 m m2 r r2 h rising long left right balanced = record {
   rising = rising;
@@ -332,18 +332,18 @@ IsBalanced-walked l l2 m m2 r r2 h rising long left right balanced = record {
   tall = rw long balanced.tall;
 }
 
-pub IsBalanced-up : {V : Type 0} (visits : V → ℕ → Bool → V → Type 0) (number : ℕ) (l l2 : Option (Box Grown Global)) (m m2 : Mark) (r r2 : Option (Box Grown Global)) (h : ℕ) (a b : Way) (u v : V) → Goes (StepsUp visits number) (marks_of l ++ m ∷ marks_of r) a u (marks_of l2 ++ m2 ∷ marks_of r2) b v
+pub IsBalanced-up : {V : Type 0} (visits : V → ℕ → Bool → V → Type 0) (number : ℕ) (l l2 : Option (Box Grown Global)) (m m2 : Mark) (r r2 : Option (Box Grown Global)) (h : ℕ) (a b : Way) (u v : V) → Goes (StepsUp visits number) (marks_in_tree l ++ m ∷ marks_in_tree r) a u (marks_in_tree l2 ++ m2 ∷ marks_in_tree r2) b v
     → height_of l2 ≡ height_of l → height_of r2 ≡ height_of r → IsBalanced l m r h → IsBalanced l2 m2 r2 h
 IsBalanced-up visits number l l2 m m2 r r2 h a b u v goes left right balanced =
-    IsBalanced-walked l l2 m m2 r r2 h (Rising-up visits number (marks_of l ++ m ∷ marks_of r) (marks_of l2 ++ m2 ∷ marks_of r2) a b u v goes balanced.rising) (Goes-length (StepsUp visits number) (marks_of l ++ m ∷ marks_of r) (marks_of l2 ++ m2 ∷ marks_of r2) a b u v goes) left right balanced
+    IsBalanced-walked l l2 m m2 r r2 h (Rising-up visits number (marks_in_tree l ++ m ∷ marks_in_tree r) (marks_in_tree l2 ++ m2 ∷ marks_in_tree r2) a b u v goes balanced.rising) (Goes-length (StepsUp visits number) (marks_in_tree l ++ m ∷ marks_in_tree r) (marks_in_tree l2 ++ m2 ∷ marks_in_tree r2) a b u v goes) left right balanced
 
 pub length-down : {V : Type 0} (visits : V → ℕ → Bool → V → Type 0) (number : ℕ) (xs xs' : List Mark) (a b : Way) (u v : V) → Goes (StepsDown visits number) (reverse xs) a u (reverse xs') b v → length xs' ≡ length xs
 length-down visits number xs xs' a b u v goes = omega (arith, Goes-length (StepsDown visits number) (reverse xs) (reverse xs') a b u v goes, length-reverse xs, length-reverse xs')
 
-pub IsBalanced-down : {V : Type 0} (visits : V → ℕ → Bool → V → Type 0) (number : ℕ) (l l2 : Option (Box Grown Global)) (m m2 : Mark) (r r2 : Option (Box Grown Global)) (h : ℕ) (a b : Way) (u v : V) → Goes (StepsDown visits number) (reverse (marks_of l ++ m ∷ marks_of r)) a u (reverse (marks_of l2 ++ m2 ∷ marks_of r2)) b v
+pub IsBalanced-down : {V : Type 0} (visits : V → ℕ → Bool → V → Type 0) (number : ℕ) (l l2 : Option (Box Grown Global)) (m m2 : Mark) (r r2 : Option (Box Grown Global)) (h : ℕ) (a b : Way) (u v : V) → Goes (StepsDown visits number) (reverse (marks_in_tree l ++ m ∷ marks_in_tree r)) a u (reverse (marks_in_tree l2 ++ m2 ∷ marks_in_tree r2)) b v
     → height_of l2 ≡ height_of l → height_of r2 ≡ height_of r → IsBalanced l m r h → IsBalanced l2 m2 r2 h
 IsBalanced-down visits number l l2 m m2 r r2 h a b u v goes left right balanced =
-    IsBalanced-walked l l2 m m2 r r2 h (Rising-down visits number (marks_of l ++ m ∷ marks_of r) (marks_of l2 ++ m2 ∷ marks_of r2) a b u v goes balanced.rising) (length-down visits number (marks_of l ++ m ∷ marks_of r) (marks_of l2 ++ m2 ∷ marks_of r2) a b u v goes) left right balanced
+    IsBalanced-walked l l2 m m2 r r2 h (Rising-down visits number (marks_in_tree l ++ m ∷ marks_in_tree r) (marks_in_tree l2 ++ m2 ∷ marks_in_tree r2) a b u v goes balanced.rising) (length-down visits number (marks_in_tree l ++ m ∷ marks_in_tree r) (marks_in_tree l2 ++ m2 ∷ marks_in_tree r2) a b u v goes) left right balanced
 
 module _ {V : Type 0} (visits : V → ℕ → Bool → V → Type 0) (number : ℕ) (l l' : Option (Box Grown Global)) (m m' : Mark) (r r' : Option (Box Grown Global)) (h : ℕ) (a b c : Way) (u v w : V) where
   pub up-balanced : Neared (StepsUp visits number) ahead l l' m m' a b u v → Walked (StepsUp visits number) ahead r r' b c v w → IsBalanced l m r h → IsBalanced l' m' r' h

@@ -7,8 +7,8 @@ use Rattle.std.proofs.lemmas.Bool.Decides.{Decides-int_eq}
 use Rattle.std.proofs.lemmas.Int.{ints}
 use Rattle.crack_row.specs.Ranges.{IsIn}
 use Rattle.crack_index.specs.declared.sums.TheConstants.{UNKNOWN}
-use Rattle.crack_index.specs.Sums.{start_of, IsKnown, AreKnown, total_in, distance_in}
-use Rattle.crack_index.specs.Cuts.{Rises, span}
+use Rattle.crack_index.specs.Sums.{lowest_start, IsKnown, SumsAreKnown, total_in, distance_in}
+use Rattle.crack_index.specs.Cuts.{StartsRise, span}
 use Rattle.crack_index.specs.SumKeeps.{IsTotal, AllKnown, total_of, distance_of, inside, unknown_from}
 use Rattle.crack_index.proofs.Pieces.{in_yes, in_below, in_above}
 
@@ -45,7 +45,7 @@ in_distance low high (e ∷ es) = elim (cases_lt e.0 low) [
   ]
 ]
 
-in_known : (low high : ℕ) (es : List (ℕ × ℤ)) → AllKnown (inside (record { low = low; high = high }) es) → AreKnown (record { low = low; high = high }) es
+in_known : (low high : ℕ) (es : List (ℕ × ℤ)) → AllKnown (inside (record { low = low; high = high }) es) → SumsAreKnown (record { low = low; high = high }) es
 in_known low high [] all = tt
 in_known low high (e ∷ es) all = elim (cases_lt e.0 low) [
   | inl l ↦ (λ h k. absurd (omega arith), in_known low high es (rw (in_below low high e.0 l) at all))
@@ -55,7 +55,7 @@ in_known low high (e ∷ es) all = elim (cases_lt e.0 low) [
   ]
 ]
 
-known_in : (low high : ℕ) (es : List (ℕ × ℤ)) → AreKnown (record { low = low; high = high }) es → AllKnown (inside (record { low = low; high = high }) es)
+known_in : (low high : ℕ) (es : List (ℕ × ℤ)) → SumsAreKnown (record { low = low; high = high }) es → AllKnown (inside (record { low = low; high = high }) es)
 known_in low high [] all = tt
 known_in low high (e ∷ es) all = elim (cases_lt e.0 low) [
   | inl l ↦ rw (in_below low high e.0 l) (known_in low high es all.1)
@@ -70,7 +70,7 @@ known_in low high (e ∷ es) all = elim (cases_lt e.0 low) [
 known_by : (sum : ℤ) → int_eq sum UNKNOWN ≡ false → IsKnown sum
 known_by sum apart = λ is. (let one : int_eq sum UNKNOWN ≡ true = rw is refl in absurd (cc))
 
-known_none : (first high : ℕ) (es : List (ℕ × ℤ)) → unknown_from first es ≡ None → AreKnown (record { low = first; high = high }) es
+known_none : (first high : ℕ) (es : List (ℕ × ℤ)) → unknown_from first es ≡ None → SumsAreKnown (record { low = first; high = high }) es
 known_none first high [] none = tt
 known_none first high (e ∷ es) none = elim (cases_lt e.0 first) [
   | inl l ↦ (λ h k. absurd (omega arith), known_none first high es (rw (lt-leb first e.0 l) at none))
@@ -80,11 +80,11 @@ known_none first high (e ∷ es) none = elim (cases_lt e.0 first) [
   ]
 ]
 
-known_above : (first high : ℕ) (es : List (ℕ × ℤ)) → Rises es → high ≤ start_of es → AreKnown (record { low = first; high = high }) es
+known_above : (first high : ℕ) (es : List (ℕ × ℤ)) → StartsRise es → high ≤ lowest_start es → SumsAreKnown (record { low = first; high = high }) es
 known_above first high [] rises h = tt
 known_above first high (e ∷ es) rises h = (λ j k. absurd (omega arith), known_above first high es rises.1 (omega (arith, rises.0)))
 
-known_beyond : (first high start : ℕ) (es : List (ℕ × ℤ)) → Rises es → unknown_from first es ≡ Some start → high ≤ start → AreKnown (record { low = first; high = high }) es
+known_beyond : (first high start : ℕ) (es : List (ℕ × ℤ)) → StartsRise es → unknown_from first es ≡ Some start → high ≤ start → SumsAreKnown (record { low = first; high = high }) es
 known_beyond first high start [] rises found h = tt
 known_beyond first high start (e ∷ es) rises found h = elim (cases_lt e.0 first) [
   | inl l ↦ (λ j k. absurd (omega arith), known_beyond first high start es rises.1 (rw (lt-leb first e.0 l) at found) h)
@@ -99,7 +99,7 @@ known_beyond first high start (e ∷ es) rises found h = elim (cases_lt e.0 firs
 
 record IsFirst (first start : ℕ) (es : List (ℕ × ℤ)) : Type 0 where
   above : first ≤ start
-  unknown : (high : ℕ) → start < high → AreKnown (record { low = first; high = high }) es → ⊥
+  unknown : (high : ℕ) → start < high → SumsAreKnown (record { low = first; high = high }) es → ⊥
 
 unknown-is : (first start : ℕ) (es : List (ℕ × ℤ)) → unknown_from first es ≡ Some start → IsFirst first start es
 unknown-is first start [] found = absurd (cc)
@@ -120,17 +120,17 @@ unknown-is first start (e ∷ es) found = elim (cases_lt e.0 first) [
 
 -- Where a walk ends
 
-pub walk-whole : (first last : ℕ) (es : List (ℕ × ℤ)) (total : ℤ) → Rises es → IsTotal (inside (span first last) es) total → IsKnown total → (total ≡ total_in (span first last) es) × AreKnown (span first last) es × Rises es
+pub walk-whole : (first last : ℕ) (es : List (ℕ × ℤ)) (total : ℤ) → StartsRise es → IsTotal (inside (span first last) es) total → IsKnown total → (total ≡ total_in (span first last) es) × SumsAreKnown (span first last) es × StartsRise es
 walk-whole first last es total rises is known =
     let both = is.right known in
     (both.1 ∙ in_total first (last + 1) es, in_known first (last + 1) es both.0, rises)
 
-pub walk-unknown : (first last start : ℕ) (es : List (ℕ × ℤ)) → Some start ≡ unknown_from first es → start ≤ last → IsIn (span first last) start × (AreKnown (span first last) es → ⊥)
+pub walk-unknown : (first last start : ℕ) (es : List (ℕ × ℤ)) → Some start ≡ unknown_from first es → start ≤ last → IsIn (span first last) start × (SumsAreKnown (span first last) es → ⊥)
 walk-unknown first last start es found h =
     let is = unknown-is first start es (sym found) in
     ((is.above, omega arith), is.unknown (last + 1) (omega arith))
 
-far : (first last : ℕ) (es : List (ℕ × ℤ)) (total : ℤ) → IsTotal (inside (span first last) es) total → total ≡ UNKNOWN → AreKnown (span first last) es → distance_in (span first last) es < 2 ^ 127 → ⊥
+far : (first last : ℕ) (es : List (ℕ × ℤ)) (total : ℤ) → IsTotal (inside (span first last) es) total → total ≡ UNKNOWN → SumsAreKnown (span first last) es → distance_in (span first last) es < 2 ^ 127 → ⊥
 far first last es total is unknown known few =
     let whole = in_distance first (last + 1) es in
     is.found (known_in first (last + 1) es known) (omega arith) unknown
@@ -138,5 +138,5 @@ far first last es total is unknown known few =
 pub walk-none : (first last : ℕ) (es : List (ℕ × ℤ)) (total : ℤ) → IsTotal (inside (span first last) es) total → total ≡ UNKNOWN → None ≡ unknown_from first es → distance_in (span first last) es < 2 ^ 127 → ⊥
 walk-none first last es total is unknown none = far first last es total is unknown (known_none first (last + 1) es (sym none))
 
-pub walk-beyond : (first last start : ℕ) (es : List (ℕ × ℤ)) (total : ℤ) → Rises es → IsTotal (inside (span first last) es) total → total ≡ UNKNOWN → Some start ≡ unknown_from first es → last < start → distance_in (span first last) es < 2 ^ 127 → ⊥
+pub walk-beyond : (first last start : ℕ) (es : List (ℕ × ℤ)) (total : ℤ) → StartsRise es → IsTotal (inside (span first last) es) total → total ≡ UNKNOWN → Some start ≡ unknown_from first es → last < start → distance_in (span first last) es < 2 ^ 127 → ⊥
 walk-beyond first last start es total rises is unknown found h = far first last es total is unknown (known_beyond first (last + 1) start es rises (sym found) (omega arith))

@@ -4,17 +4,17 @@ use Rattle.crack_row.specs.Ranges.{Range, IsIn, is_in}
 use Rattle.crack_row.specs.declared.TheConstants.{GREATEST_BOUND}
 use Rattle.crack_index.specs.declared.sums.Walked.{Walked}
 use Rattle.crack_index.specs.declared.sums.Walked.TheVariants.{Whole, Unknown, TooFar}
-use Rattle.crack_index.specs.Sums.{start_of, IsKnown, AreKnown, total_in, distance_in}
+use Rattle.crack_index.specs.Sums.{lowest_start, IsKnown, SumsAreKnown, total_in, distance_in}
 
 -- the starts of the pieces rise strictly, and are keys
-abbrev pub Rises : List (ℕ × ℤ) → Type 0
-Rises [] = ⊤
-Rises (e ∷ es) = (e.0 < start_of es) × Rises es
+abbrev pub StartsRise : List (ℕ × ℤ) → Type 0
+StartsRise [] = ⊤
+StartsRise (e ∷ es) = (e.0 < lowest_start es) × StartsRise es
 
 -- the piece that contains the key
-abbrev pub piece_at : ℕ → List (ℕ × ℤ) → Option (ℕ × ℤ)
-piece_at key [] = None
-piece_at key (e ∷ es) = cond (is_in (record { low = e.0; high = start_of es }) key) (Some e) (piece_at key es)
+abbrev pub sum_piece_at : ℕ → List (ℕ × ℤ) → Option (ℕ × ℤ)
+sum_piece_at key [] = None
+sum_piece_at key (e ∷ es) = cond (is_in (record { low = e.0; high = lowest_start es }) key) (Some e) (sum_piece_at key es)
 
 -- the start of the first piece that begins above the key, or `GREATEST_BOUND` if there is none
 abbrev pub next_at : ℕ → List (ℕ × ℤ) → ℕ
@@ -46,6 +46,6 @@ span first last = record { low = first; high = last + 1 }
 
 -- the result of a walk over the pieces that begin in the range
 abbrev pub Walks : Range → List (ℕ × ℤ) → Walked → Type 0
-Walks range es (Whole total) = (total ≡ total_in range es) × AreKnown range es × Rises es
-Walks range es (Unknown start) = IsIn range start × (AreKnown range es → ⊥)
+Walks range es (Whole total) = (total ≡ total_in range es) × SumsAreKnown range es × StartsRise es
+Walks range es (Unknown start) = IsIn range start × (SumsAreKnown range es → ⊥)
 Walks range es TooFar = distance_in range es < 2 ^ 127 → ⊥

@@ -10,7 +10,7 @@ use Rattle.crack_index.specs.Passes.{Progress, are_few, left_behind, next_few}
 abbrev pub AreAhead : Option Mark → Progress → List Mark → Type 0
 AreAhead last p ms = IfSome last (λ _. All (λ (m : Mark). p.after < m.bound.0) ms)
 
--- what a pass finds in these marks after it met the bound of the mark `last`, if any
+-- what a pass finds in these marks, if the bound that it met last is that of the given mark, or if it met none
 abbrev pub found_from : ℕ → Option Mark → Progress → List Mark → Option InnerBound × Progress
 found_from len None p ms = next_few len p ms
 found_from len (Some m) p ms = cond (are_few len p ms) (Some m.bound, p) (next_few len (left_behind m p) ms)

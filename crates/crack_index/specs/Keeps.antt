@@ -6,7 +6,7 @@ use Rattle.std.proofs.Common.{Box}
 use Rattle.crack_index.specs.declared.mark.Mark.{Mark}
 use Rattle.crack_index.specs.Marks.{Rising}
 use Rattle.crack_index.specs.Heights.{least, most}
-use Rattle.crack_index.specs.Trees.{Grown, marks_of}
+use Rattle.crack_index.specs.Trees.{Grown, marks_in_tree}
 
 -- the height, 0 for an empty tree
 abbrev pub height_of : Option (Box Grown Global) → ℕ
@@ -25,14 +25,14 @@ pub record DifferByAtMost (by l r : ℕ) : Type 0 where
 
 -- the marks rise, the stored height is right, and the subtrees' heights differ by at most one
 pub record IsBalanced (left : Option (Box Grown Global)) (mark : Mark) (right : Option (Box Grown Global)) (height : ℕ) : Type 0 where
-  pub rising : Rising (marks_of left ++ mark ∷ marks_of right)
+  pub rising : Rising (marks_in_tree left ++ mark ∷ marks_in_tree right)
   pub high : height ≡ max (height_of left) (height_of right) + 1
   pub even : DifferByAtMost 1 (height_of left) (height_of right)
-  pub tall : IsTall (length (marks_of left ++ mark ∷ marks_of right)) height
+  pub tall : IsTall (length (marks_in_tree left ++ mark ∷ marks_in_tree right)) height
 
 -- the invariant of an index: its marks rise, `len` is their number, and marks and spare nodes together are fewer
 -- than 2^64 - 1
-pub record IsKept (marks : List Mark) (spare len : ℕ) : Type 0 where
+pub record IsSoundIndex (marks : List Mark) (spare len : ℕ) : Type 0 where
   pub rising : Rising marks
   pub counted : length marks ≡ len
   pub few : len + spare < 2 ^ 64 - 1

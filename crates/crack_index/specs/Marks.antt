@@ -87,9 +87,9 @@ pieces_from low from (m ∷ ms) high to =
     size_between low from bound m.position ∷ pieces_from bound m.position ms high to
 
 -- the marks with one more, inserted before the first with a higher bound
-abbrev pub added : Mark → List Mark → List Mark
-added m [] = m ∷ []
-added m (n ∷ ns) = cond (nat_lt m.bound.0 n.bound.0) (m ∷ n ∷ ns) (n ∷ added m ns)
+abbrev pub with_mark : Mark → List Mark → List Mark
+with_mark m [] = m ∷ []
+with_mark m (n ∷ ns) = cond (nat_lt m.bound.0 n.bound.0) (m ∷ n ∷ ns) (n ∷ with_mark m ns)
 
 -- the marks without this bound
 abbrev pub removed : ℕ → List Mark → List Mark

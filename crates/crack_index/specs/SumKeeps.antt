@@ -8,8 +8,8 @@ use Rattle.crack_row.specs.Ranges.{Range, is_in}
 use Rattle.crack_index.specs.declared.sums.TheConstants.{UNKNOWN}
 use Rattle.crack_index.specs.Keeps.{IsTall, DifferByAtMost}
 use Rattle.crack_index.specs.Sums.{IsKnown}
-use Rattle.crack_index.specs.Cuts.{Rises}
-use Rattle.crack_index.specs.SumTrees.{Summed, entries_of}
+use Rattle.crack_index.specs.Cuts.{StartsRise}
+use Rattle.crack_index.specs.SumTrees.{Summed, entries_in_tree}
 
 -- the height, 0 for an empty tree
 abbrev pub levels_of : Option (Box Summed Global) → ℕ
@@ -51,10 +51,10 @@ unknown_from first (e ∷ es) = cond (nat_le first e.0 && int_eq e.1 UNKNOWN) (S
 pub record IsSummed (left : Option (Box Summed Global)) (entry : ℕ × ℤ) (right : Option (Box Summed Global)) (total : ℤ) (height : ℕ) : Type 0 where
   pub high : height ≡ max (levels_of left) (levels_of right) + 1
   pub even : DifferByAtMost 1 (levels_of left) (levels_of right)
-  pub tall : IsTall (length (entries_of left ++ entry ∷ entries_of right)) height
-  pub summed : IsTotal (entries_of left ++ entry ∷ entries_of right) total
+  pub tall : IsTall (length (entries_in_tree left ++ entry ∷ entries_in_tree right)) height
+  pub summed : IsTotal (entries_in_tree left ++ entry ∷ entries_in_tree right) total
 
 -- the invariant of the pieces: their starts rise, and `len` is their number
-pub record AreKept (es : List (ℕ × ℤ)) (len : ℕ) : Type 0 where
-  pub rises : Rises es
+pub record AreCountedPieces (es : List (ℕ × ℤ)) (len : ℕ) : Type 0 where
+  pub rises : StartsRise es
   pub counted : length es ≡ len

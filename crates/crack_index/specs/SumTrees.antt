@@ -9,6 +9,6 @@ pub record Summed : Type 0 where
   pub height : ℕ
 
 -- the pieces of a tree, none if it is empty
-abbrev pub entries_of : Option (Box Summed Global) → List (ℕ × ℤ)
-entries_of None = []
-entries_of (Some n) = n.value.entries
+abbrev pub entries_in_tree : Option (Box Summed Global) → List (ℕ × ℤ)
+entries_in_tree None = []
+entries_in_tree (Some n) = n.value.entries

@@ -7,9 +7,9 @@ use Rattle.crack_row.specs.declared.TheConstants.{GREATEST_BOUND}
 use Rattle.crack_index.specs.declared.sums.TheConstants.{UNKNOWN}
 
 -- the start of the first piece, or `GREATEST_BOUND` if there is none
-abbrev pub start_of : List (ℕ × ℤ) → ℕ
-start_of [] = GREATEST_BOUND
-start_of (e ∷ es) = e.0
+abbrev pub lowest_start : List (ℕ × ℤ) → ℕ
+lowest_start [] = GREATEST_BOUND
+lowest_start (e ∷ es) = e.0
 
 -- the sum is known
 abbrev pub IsKnown : ℤ → Type 0
@@ -19,7 +19,7 @@ IsKnown sum = sum ≡ UNKNOWN → ⊥
 -- including `high`
 abbrev pub AreRight : (ℕ → ℕ → ℤ) → List (ℕ × ℤ) → Type 0
 AreRight m [] = ⊤
-AreRight m (e ∷ es) = (IsKnown e.1 → e.1 ≡ m e.0 (start_of es)) × AreRight m es
+AreRight m (e ∷ es) = (IsKnown e.1 → e.1 ≡ m e.0 (lowest_start es)) × AreRight m es
 
 -- the measure of a range is the sum of the measures of its two parts, and the measure of an empty range is 0
 pub record IsAdditive (m : ℕ → ℕ → ℤ) : Type 0 where
@@ -46,13 +46,13 @@ both lower upper = cond (int_eq upper UNKNOWN) UNKNOWN (later upper lower)
 -- the pieces after a change at the key: the sum of the piece that contains the key changes
 abbrev pub adjusted : ℕ → ℤ → List (ℕ × ℤ) → List (ℕ × ℤ)
 adjusted key change [] = []
-adjusted key change (e ∷ es) = cond (is_in (record { low = e.0; high = start_of es }) key) ((e.0, later change e.1) ∷ es) (e ∷ adjusted key change es)
+adjusted key change (e ∷ es) = cond (is_in (record { low = e.0; high = lowest_start es }) key) ((e.0, later change e.1) ∷ es) (e ∷ adjusted key change es)
 
--- the pieces after the one that begins at the key was joined to the piece below it, if there is one
-abbrev pub joined : ℕ → List (ℕ × ℤ) → List (ℕ × ℤ)
-joined key [] = []
-joined key (e ∷ []) = e ∷ []
-joined key (e ∷ f ∷ fs) = cond (key == f.0) ((e.0, both e.1 f.1) ∷ fs) (e ∷ joined key (f ∷ fs))
+-- the pieces, with the one that begins at the key joined to the piece below it, if both exist
+abbrev pub joined_below : ℕ → List (ℕ × ℤ) → List (ℕ × ℤ)
+joined_below key [] = []
+joined_below key (e ∷ []) = e ∷ []
+joined_below key (e ∷ f ∷ fs) = cond (key == f.0) ((e.0, both e.1 f.1) ∷ fs) (e ∷ joined_below key (f ∷ fs))
 
 -- each reported sum of a range that isn't empty is the range's measure
 abbrev pub AreTold : (ℕ → ℕ → ℤ → Type 0) → (ℕ → ℕ → ℤ) → Type 0
@@ -64,9 +64,9 @@ IsEnd bound [] = bound ≡ GREATEST_BOUND
 IsEnd bound (e ∷ es) = (bound ≡ e.0) ⊎ IsEnd bound es
 
 -- the sums of all pieces that begin in the range are known
-abbrev pub AreKnown : Range → List (ℕ × ℤ) → Type 0
-AreKnown range [] = ⊤
-AreKnown range (e ∷ es) = (range.low ≤ e.0 → e.0 < range.high → IsKnown e.1) × AreKnown range es
+abbrev pub SumsAreKnown : Range → List (ℕ × ℤ) → Type 0
+SumsAreKnown range [] = ⊤
+SumsAreKnown range (e ∷ es) = (range.low ≤ e.0 → e.0 < range.high → IsKnown e.1) × SumsAreKnown range es
 
 -- the total of the pieces that begin in the range
 abbrev pub total_in : Range → List (ℕ × ℤ) → ℤ

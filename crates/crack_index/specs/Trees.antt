@@ -10,6 +10,6 @@ pub record Grown : Type 0 where
   pub height : ℕ
 
 -- the marks of a tree, none if it is empty
-abbrev pub marks_of : Option (Box Grown Global) → List Mark
-marks_of None = []
-marks_of (Some n) = n.value.marks
+abbrev pub marks_in_tree : Option (Box Grown Global) → List Mark
+marks_in_tree None = []
+marks_in_tree (Some n) = n.value.marks

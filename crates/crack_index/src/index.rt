@@ -7,7 +7,7 @@ ghost use Rattle.crack_index.specs.Walks.{Climbs, Descends};
 ghost use Rattle.crack_index.specs.Raises.{Raises};
 ghost use Rattle.crack_index.specs.Places.{Places};
 ghost use Rattle.crack_index.specs.Marks.{Rising, Fits, HasBound, position_of, next_mark, last_mark, first_behind};
-ghost use Rattle.crack_index.specs.Marks.{added, removed, raised, lowered_at, piece_at, pieces_from};
+ghost use Rattle.crack_index.specs.Marks.{with_mark, removed, raised, lowered_at, piece_at, pieces_from};
 ghost use Rattle.crack_index.specs.Passes.{pass_above, next_few};
 
 use crate::tree::{self, Link, Node};
@@ -42,14 +42,14 @@ pub struct CrackerIndex {
 impl Model for CrackerIndex {
     ghost use Rattle.std.specs.Prelude.{vec_len};
     ghost use Rattle.crack_index.specs.Marks.{Index};
-    ghost use Rattle.crack_index.specs.Keeps.{IsKept};
-    ghost use Rattle.crack_index.specs.Trees.{marks_of};
+    ghost use Rattle.crack_index.specs.Keeps.{IsSoundIndex};
+    ghost use Rattle.crack_index.specs.Trees.{marks_in_tree};
 
     ghost Value = { Index };
 
-    ghost view = { λ i. record { marks = marks_of i.root; room = vec_len i.spare } };
+    ghost view = { λ i. record { marks = marks_in_tree i.root; room = vec_len i.spare } };
 
-    ghost invariant = { λ i. IsKept (marks_of i.root) (vec_len i.spare) i.len };
+    ghost invariant = { λ i. IsSoundIndex (marks_in_tree i.root) (vec_len i.spare) i.len };
 }
 
 impl CrackerIndex {
@@ -111,7 +111,7 @@ impl CrackerIndex {
         requires room { 0 < self.old.room }
         requires absent { HasBound self.old.marks bound.0 → ⊥ }
         requires order { Fits (record { bound = bound; position = position }) self.old.marks }
-        ensures marks { self.new.marks ≡ added (record { bound = bound; position = position }) self.old.marks }
+        ensures marks { self.new.marks ≡ with_mark (record { bound = bound; position = position }) self.old.marks }
         ensures room { self.new.room + 1 ≡ self.old.room }
         ensures rising { Rising self.new.marks }
     {

@@ -3,7 +3,7 @@ ghost use Rattle.std.specs.Prelude.{◌≡◌, ◌∷◌, [], length};
 ghost use Rattle.crack_index.specs.Marks.{Rising};
 ghost use Rattle.crack_index.specs.Keeps.{height_of};
 ghost use Rattle.crack_index.specs.Places.{Places};
-ghost use Rattle.crack_index.specs.Trees.{marks_of};
+ghost use Rattle.crack_index.specs.Trees.{marks_in_tree};
 
 use crate::tree::{Link, Node};
 use crate::{Mark, Placer};
@@ -12,9 +12,9 @@ use crate::{Mark, Placer};
 /// below it or before `least`. Returns the place of the last, or `least` if there is none. O(marks).
 pub(crate) fn place_up<V: Placer>(link: &mut Link, least: usize, visitor: &mut V) -> usize
     requires ready { V.is_ready visitor.old }
-    ensures places { Places V.places least (marks_of link.old) visitor.old (marks_of link.new) visitor.new result }
-    ensures rising { Rising (marks_of link.old) → Rising (marks_of link.new) }
-    ensures length { length (marks_of link.new) ≡ length (marks_of link.old) }
+    ensures places { Places V.places least (marks_in_tree link.old) visitor.old (marks_in_tree link.new) visitor.new result }
+    ensures rising { Rising (marks_in_tree link.old) → Rising (marks_in_tree link.new) }
+    ensures length { length (marks_in_tree link.new) ≡ length (marks_in_tree link.old) }
     ensures height { height_of link.new ≡ height_of link.old }
     ensures ready { V.is_ready visitor.new }
 {

@@ -4,7 +4,7 @@ ghost use Rattle.std.specs.Option.{option_map};
 ghost use Rattle.crack_row.specs.declared.Key.{Key};
 ghost use Rattle.crack_index.specs.Finds.{AreAhead, found_from, found_or};
 ghost use Rattle.crack_index.specs.Passes.{next_few, stopped_at};
-ghost use Rattle.crack_index.specs.Trees.{marks_of};
+ghost use Rattle.crack_index.specs.Trees.{marks_in_tree};
 ghost use Rattle.crack_index.specs.declared.mark.Mark.{Mark};
 
 use crate::Mark;
@@ -62,7 +62,7 @@ impl Pass {
     /// The next bound whose two pieces hold few rows together, in a column of `len` rows. To go on with the pass,
     /// the caller must remove it. O(log marks), and a step for each bound that the pass meets.
     pub(crate) fn next_few(&mut self, link: &Link, len: usize) -> Option<InnerBound>
-        ensures { (result, self.new) ≡ next_few len self.old (marks_of link.now) }
+        ensures { (result, self.new) ≡ next_few len self.old (marks_in_tree link.now) }
     {
         let mut last = None;
         let has_halted = meet_all(link, self, &mut last);
@@ -118,9 +118,9 @@ impl Pass {
 /// Does the part of a pass that lies in this tree. `last` is the bound that the pass met last. Returns whether it
 /// halted.
 fn meet_all(link: &Link, pass: &mut Pass, last: &mut Option<Mark>) -> bool
-    ensures found { (len : ℕ) (ms : List Mark) → AreAhead last.old pass.old (marks_of link.now)
-        → found_from len last.old pass.old (marks_of link.now ++ ms) ≡ found_or result len last.new pass.new ms }
-    ensures after { (bound : ℕ) → pass.old.after < bound → All (λ m. m.bound.0 < bound) (marks_of link.now)
+    ensures found { (len : ℕ) (ms : List Mark) → AreAhead last.old pass.old (marks_in_tree link.now)
+        → found_from len last.old pass.old (marks_in_tree link.now ++ ms) ≡ found_or result len last.new pass.new ms }
+    ensures after { (bound : ℕ) → pass.old.after < bound → All (λ m. m.bound.0 < bound) (marks_in_tree link.now)
         → pass.new.after < bound }
 {
     let Some(node) = link else {

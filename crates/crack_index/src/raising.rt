@@ -3,7 +3,7 @@ ghost use Rattle.std.specs.Prelude.{◌≡◌, ◌+◌, ◌≤◌, ◌∷◌, []
 ghost use Rattle.crack_index.specs.Marks.{Rising};
 ghost use Rattle.crack_index.specs.Keeps.{height_of};
 ghost use Rattle.crack_index.specs.Raises.{Raises};
-ghost use Rattle.crack_index.specs.Trees.{marks_of};
+ghost use Rattle.crack_index.specs.Trees.{marks_in_tree};
 
 use crate::tree::{Link, Node};
 use crate::{Mark, Raiser};
@@ -12,12 +12,12 @@ use crate::{Mark, Raiser};
 /// mark above it rose, or than `most`. Returns how far the next mark below them may rise. O(marks that rise + log
 /// marks).
 pub(crate) fn raise_down<V: Raiser>(link: &mut Link, most: usize, visitor: &mut V) -> usize
-    requires small { All (λ m. m.position + most ≤ usize.MAX) (marks_of link.old) }
+    requires small { All (λ m. m.position + most ≤ usize.MAX) (marks_in_tree link.old) }
     requires ready { V.is_ready visitor.old }
-    ensures raises { Raises V.rises most (reverse (marks_of link.old)) visitor.old (reverse (marks_of link.new))
+    ensures raises { Raises V.rises most (reverse (marks_in_tree link.old)) visitor.old (reverse (marks_in_tree link.new))
         visitor.new result }
-    ensures rising { Rising (marks_of link.old) → Rising (marks_of link.new) }
-    ensures length { length (marks_of link.new) ≡ length (marks_of link.old) }
+    ensures rising { Rising (marks_in_tree link.old) → Rising (marks_in_tree link.new) }
+    ensures length { length (marks_in_tree link.new) ≡ length (marks_in_tree link.old) }
     ensures height { height_of link.new ≡ height_of link.old }
     ensures ready { V.is_ready visitor.new }
     ensures most { result ≤ most }

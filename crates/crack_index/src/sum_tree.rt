@@ -3,9 +3,9 @@
 ghost use Rattle.std.specs.Prelude.{◌≡◌, ◌+◌, ◌^◌, ◌<◌, ◌≤◌, max, length, [], ◌∷◌, ◌++◌, ℕ};
 ghost use Rattle.crack_row.specs.declared.TheConstants.{GREATEST_BOUND};
 ghost use Rattle.crack_index.specs.Sums.{IsEnd};
-ghost use Rattle.crack_index.specs.Cuts.{Rises, piece_at, next_at, put, given, dropped, span};
+ghost use Rattle.crack_index.specs.Cuts.{StartsRise, sum_piece_at, next_at, put, given, dropped, span};
 ghost use Rattle.crack_index.specs.Keeps.{IsTall, DifferByAtMost};
-ghost use Rattle.crack_index.specs.SumTrees.{Summed, entries_of};
+ghost use Rattle.crack_index.specs.SumTrees.{Summed, entries_in_tree};
 ghost use Rattle.crack_index.specs.SumKeeps.{IsTotal, IsSummed, levels_of, inside, unknown_from};
 ghost use Rattle.crack_index.specs.Rotations.{IsHeightOver};
 
@@ -34,13 +34,13 @@ pub(crate) struct Node {
 
 impl Model for Node {
     ghost use Rattle.std.specs.Prelude.{◌∷◌, ◌++◌, length};
-    ghost use Rattle.crack_index.specs.SumTrees.{Summed, entries_of};
+    ghost use Rattle.crack_index.specs.SumTrees.{Summed, entries_in_tree};
     ghost use Rattle.crack_index.specs.SumKeeps.{IsSummed};
     ghost use Rattle.std.proofs.Common.{arith, length-append};
 
     ghost Value = { Summed };
 
-    ghost view = { λ n. record { entries = entries_of n.left ++ n.entry ∷ entries_of n.right; height = n.height } };
+    ghost view = { λ n. record { entries = entries_in_tree n.left ++ n.entry ∷ entries_in_tree n.right; height = n.height } };
 
     ghost invariant = { λ n. IsSummed n.left n.entry n.right n.total n.height };
 
@@ -74,7 +74,7 @@ impl Node {
 
     /// Takes the node apart. The node is left without children.
     fn open(&mut self) -> Parts
-        ensures entries { self.old.entries ≡ entries_of result.left ++ result.entry ∷ entries_of result.right }
+        ensures entries { self.old.entries ≡ entries_in_tree result.left ++ result.entry ∷ entries_in_tree result.right }
         ensures high { self.old.height ≡ max (levels_of result.left) (levels_of result.right) + 1 }
         ensures even { DifferByAtMost 1 (levels_of result.left) (levels_of result.right) }
         ensures tall { IsTall (length self.old.entries) self.old.height }
@@ -93,7 +93,7 @@ impl Node {
 /// The height of a tree, 0 if it is empty. O(1).
 fn height(link: &Link) -> u32
     ensures value { result ≡ levels_of link.now }
-    ensures tall { IsTall (length (entries_of link.now)) (levels_of link.now) }
+    ensures tall { IsTall (length (entries_in_tree link.now)) (levels_of link.now) }
 {
     match link {
         None => 0,
@@ -104,7 +104,7 @@ fn height(link: &Link) -> u32
 /// The total of a tree, 0 if it is empty. O(1).
 #[inline]
 fn total(link: &Link) -> i128
-    ensures { IsTotal (entries_of link.now) result }
+    ensures { IsTotal (entries_in_tree link.now) result }
 {
     match link {
         None => 0,
@@ -115,15 +115,15 @@ fn total(link: &Link) -> i128
 /// The total of two subtrees and the piece between them. O(1).
 #[inline]
 fn total_over(left: &Link, sum: i128, right: &Link) -> i128
-    ensures { (start : ℕ) → IsTotal (entries_of left.now ++ (start, sum) ∷ entries_of right.now) result }
+    ensures { (start : ℕ) → IsTotal (entries_in_tree left.now ++ (start, sum) ∷ entries_in_tree right.now) result }
 {
     amounts::whole(amounts::whole(total(left), sum), total(right))
 }
 
 /// The piece that contains the key. O(log pieces), one comparison per level.
 pub(crate) fn last_at(link: &Link, key: KeyNumber) -> Option<Entry>
-    requires { Rises (entries_of link.now) }
-    ensures { result ≡ piece_at key (entries_of link.now) }
+    requires { StartsRise (entries_in_tree link.now) }
+    ensures { result ≡ sum_piece_at key (entries_in_tree link.now) }
 {
     let mut found = None;
     let mut here = link;
@@ -147,8 +147,8 @@ pub(crate) fn last_at(link: &Link, key: KeyNumber) -> Option<Entry>
 /// The start of the first piece that begins above the key, or `GREATEST_BOUND` if there is none. O(log pieces), one
 /// comparison per level.
 pub(crate) fn next_above(link: &Link, key: KeyNumber) -> BoundNumber
-    requires { Rises (entries_of link.now) }
-    ensures { result ≡ next_at key (entries_of link.now) }
+    requires { StartsRise (entries_in_tree link.now) }
+    ensures { result ≡ next_at key (entries_in_tree link.now) }
 {
     let mut found = GREATEST_BOUND;
     let mut here = link;
@@ -171,8 +171,8 @@ pub(crate) fn next_above(link: &Link, key: KeyNumber) -> BoundNumber
 
 /// The total of the pieces that begin at keys from `first` to `last`. O(log pieces), one step per level.
 pub(crate) fn total_between(link: &Link, first: KeyNumber, last: KeyNumber) -> i128
-    requires { Rises (entries_of link.now) }
-    ensures { IsTotal (inside (span first last) (entries_of link.now)) result }
+    requires { StartsRise (entries_in_tree link.now) }
+    ensures { IsTotal (inside (span first last) (entries_in_tree link.now)) result }
 {
     let mut here = link;
     'down: while let Some(node) = here {
@@ -196,8 +196,8 @@ pub(crate) fn total_between(link: &Link, first: KeyNumber, last: KeyNumber) -> i
 
 /// The total of the pieces that begin at or above `first`. O(log pieces), one step per level.
 fn total_from(link: &Link, first: KeyNumber) -> i128
-    requires { Rises (entries_of link.now) }
-    ensures { IsTotal (inside (record { low = first; high = GREATEST_BOUND }) (entries_of link.now)) result }
+    requires { StartsRise (entries_in_tree link.now) }
+    ensures { IsTotal (inside (record { low = first; high = GREATEST_BOUND }) (entries_in_tree link.now)) result }
 {
     let mut sum = 0;
     let mut here = link;
@@ -220,8 +220,8 @@ fn total_from(link: &Link, first: KeyNumber) -> i128
 
 /// The total of the pieces that begin at or below `last`. O(log pieces), one step per level.
 fn total_to(link: &Link, last: KeyNumber) -> i128
-    requires { Rises (entries_of link.now) }
-    ensures { IsTotal (inside (span 0 last) (entries_of link.now)) result }
+    requires { StartsRise (entries_in_tree link.now) }
+    ensures { IsTotal (inside (span 0 last) (entries_in_tree link.now)) result }
 {
     let mut sum = 0;
     let mut here = link;
@@ -245,8 +245,8 @@ fn total_to(link: &Link, last: KeyNumber) -> i128
 /// The start of the first piece that begins at or above `first` and whose sum is unknown. O(log pieces): subtrees
 /// with a known total aren't searched.
 pub(crate) fn first_unknown(link: &Link, first: KeyNumber) -> Option<KeyNumber>
-    requires { Rises (entries_of link.now) }
-    ensures { result ≡ unknown_from first (entries_of link.now) }
+    requires { StartsRise (entries_in_tree link.now) }
+    ensures { result ≡ unknown_from first (entries_in_tree link.now) }
 {
     let Some(node) = link else {
         return None;
@@ -276,10 +276,10 @@ pub(crate) fn first_unknown(link: &Link, first: KeyNumber) -> Option<KeyNumber>
 /// Inserts a piece into the tree, in the node that is passed in. No piece may begin at its key yet. O(log pieces),
 /// takes no memory.
 pub(crate) fn insert(link: Link, entry: Entry, mut node: Box<Node>) -> Box<Node>
-    requires rises { Rises (entries_of link) }
-    requires apart { IsEnd entry.0 (entries_of link) → ⊥ }
-    requires few { length (entries_of link) < 2 ^ 64 }
-    ensures entries { result.value.entries ≡ put entry.0 entry.1 (entries_of link) }
+    requires rises { StartsRise (entries_in_tree link) }
+    requires apart { IsEnd entry.0 (entries_in_tree link) → ⊥ }
+    requires few { length (entries_in_tree link) < 2 ^ 64 }
+    ensures entries { result.value.entries ≡ put entry.0 entry.1 (entries_in_tree link) }
     ensures not_lower { levels_of link ≤ result.value.height }
     ensures one_higher { result.value.height ≤ levels_of link + 1 }
 {
@@ -299,8 +299,8 @@ pub(crate) fn insert(link: Link, entry: Entry, mut node: Box<Node>) -> Box<Node>
 
 /// Sets the sum of the piece that begins at the key. O(log pieces), takes no memory.
 pub(crate) fn give(link: &mut Link, key: KeyNumber, sum: i128)
-    requires { Rises (entries_of link.old) }
-    ensures entries { entries_of link.new ≡ given key sum (entries_of link.old) }
+    requires { StartsRise (entries_in_tree link.old) }
+    ensures entries { entries_in_tree link.new ≡ given key sum (entries_in_tree link.old) }
     ensures height { levels_of link.new ≡ levels_of link.old }
 {
     let Some(node) = link else {
@@ -328,7 +328,7 @@ pub(crate) fn give(link: &mut Link, key: KeyNumber, sum: i128)
 fn join(left: Link, entry: Entry, right: Link, node: Box<Node>) -> Box<Node>
     requires near { DifferByAtMost 2 (levels_of left) (levels_of right) }
     requires fits { max (levels_of left) (levels_of right) ≤ 2 ^ 31 }
-    ensures entries { result.value.entries ≡ entries_of left ++ entry ∷ entries_of right }
+    ensures entries { result.value.entries ≡ entries_in_tree left ++ entry ∷ entries_in_tree right }
     ensures height { IsHeightOver (levels_of left) (levels_of right) result.value.height }
 {
     let (high, low) = (height(&left), height(&right));
@@ -344,7 +344,7 @@ fn join(left: Link, entry: Entry, right: Link, node: Box<Node>) -> Box<Node>
 fn with_children(left: Link, entry: Entry, right: Link, mut node: Box<Node>) -> Box<Node>
     requires even { DifferByAtMost 1 (levels_of left) (levels_of right) }
     requires fits { max (levels_of left) (levels_of right) + 1 < 2 ^ 32 }
-    ensures entries { result.value.entries ≡ entries_of left ++ entry ∷ entries_of right }
+    ensures entries { result.value.entries ≡ entries_in_tree left ++ entry ∷ entries_in_tree right }
     ensures height { result.value.height ≡ max (levels_of left) (levels_of right) + 1 }
 {
     let height = height(&left).max(height(&right)) + 1;
@@ -363,7 +363,7 @@ fn with_children(left: Link, entry: Entry, right: Link, mut node: Box<Node>) -> 
 fn lean_left(mut top: Box<Node>, entry: Entry, right: Link, spare: Box<Node>) -> Box<Node>
     requires two_higher { top.value.height ≡ levels_of right + 2 }
     requires fits { top.value.height ≤ 2 ^ 31 }
-    ensures entries { result.value.entries ≡ top.value.entries ++ entry ∷ entries_of right }
+    ensures entries { result.value.entries ≡ top.value.entries ++ entry ∷ entries_in_tree right }
     ensures not_lower { top.value.height ≤ result.value.height }
     ensures one_higher { result.value.height ≤ top.value.height + 1 }
 {
@@ -389,7 +389,7 @@ fn lean_left(mut top: Box<Node>, entry: Entry, right: Link, spare: Box<Node>) ->
 fn lean_right(left: Link, entry: Entry, mut top: Box<Node>, spare: Box<Node>) -> Box<Node>
     requires two_higher { top.value.height ≡ levels_of left + 2 }
     requires fits { top.value.height ≤ 2 ^ 31 }
-    ensures entries { result.value.entries ≡ entries_of left ++ entry ∷ top.value.entries }
+    ensures entries { result.value.entries ≡ entries_in_tree left ++ entry ∷ top.value.entries }
     ensures not_lower { top.value.height ≤ result.value.height }
     ensures one_higher { result.value.height ≤ top.value.height + 1 }
 {
@@ -421,7 +421,7 @@ struct First {
 /// Removes the first piece from a tree, and frees its node. O(log pieces), takes no memory.
 fn take_first(mut node: Box<Node>) -> First
     requires few { length node.value.entries ≤ 2 ^ 64 }
-    ensures entries { node.value.entries ≡ result.entry ∷ entries_of result.rest }
+    ensures entries { node.value.entries ≡ result.entry ∷ entries_in_tree result.rest }
     ensures not_higher { levels_of result.rest ≤ node.value.height }
     ensures one_lower { node.value.height ≤ levels_of result.rest + 1 }
 {
@@ -439,9 +439,9 @@ fn take_first(mut node: Box<Node>) -> First
 
 /// Removes the piece that begins at the key, if there is one, and frees a node. O(log pieces), takes no memory.
 pub(crate) fn remove(link: Link, key: KeyNumber) -> Link
-    requires rises { Rises (entries_of link) }
-    requires few { length (entries_of link) ≤ 2 ^ 64 }
-    ensures entries { entries_of result ≡ dropped key (entries_of link) }
+    requires rises { StartsRise (entries_in_tree link) }
+    requires few { length (entries_in_tree link) ≤ 2 ^ 64 }
+    ensures entries { entries_in_tree result ≡ dropped key (entries_in_tree link) }
     ensures not_higher { levels_of result ≤ levels_of link }
     ensures one_lower { levels_of link ≤ levels_of result + 1 }
 {

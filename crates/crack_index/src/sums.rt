@@ -2,9 +2,9 @@
 ghost use Rattle.std.specs.Prelude.{◌≡◌, ℕ, ℤ, ◌+◌, ◌<◌, ◌≤◌, ◌^◌, ◌↔◌, [], length, IsTrue, IsSome, IfSome, OnSome};
 ghost use Rattle.std.specs.Map.{keys_of};
 ghost use Rattle.crack_row.specs.declared.TheConstants.{GREATEST_BOUND};
-ghost use Rattle.crack_index.specs.Sums.{AreRight, AreKnown, AreTold, IsAdditive, IsEnd, Changes, Extends};
-ghost use Rattle.crack_index.specs.Sums.{adjusted, joined, total_in, distance_in};
-ghost use Rattle.crack_index.specs.Cuts.{Rises, Walks, piece_at, next_at, put, given, dropped, span};
+ghost use Rattle.crack_index.specs.Sums.{AreRight, SumsAreKnown, AreTold, IsAdditive, IsEnd, Changes, Extends};
+ghost use Rattle.crack_index.specs.Sums.{adjusted, joined_below, total_in, distance_in};
+ghost use Rattle.crack_index.specs.Cuts.{StartsRise, Walks, sum_piece_at, next_at, put, given, dropped, span};
 
 use crate::amounts;
 use crate::source::Source;
@@ -28,14 +28,14 @@ pub struct PieceSums {
 
 impl Model for PieceSums {
     ghost use Rattle.std.specs.Prelude.{List, ℕ, ℤ};
-    ghost use Rattle.crack_index.specs.SumTrees.{entries_of};
-    ghost use Rattle.crack_index.specs.SumKeeps.{AreKept};
+    ghost use Rattle.crack_index.specs.SumTrees.{entries_in_tree};
+    ghost use Rattle.crack_index.specs.SumKeeps.{AreCountedPieces};
 
     ghost Value = { List (ℕ × ℤ) };
 
-    ghost view = { λ s. entries_of s.root };
+    ghost view = { λ s. entries_in_tree s.root };
 
-    ghost invariant = { λ s. AreKept (entries_of s.root) s.len };
+    ghost invariant = { λ s. AreCountedPieces (entries_in_tree s.root) s.len };
 }
 
 /// The result of a walk over pieces.
@@ -99,7 +99,7 @@ impl PieceSums {
     /// Joins the piece that begins at the key to the one below it, if both exist. Their sum is known if both sums
     /// are and it fits. Takes no memory. O(log pieces).
     pub fn join(&mut self, key: Key)
-        ensures value { self.new ≡ joined key.0 self.old }
+        ensures value { self.new ≡ joined_below key.0 self.old }
         ensures right { (m : ℕ → ℕ → ℤ) → IsAdditive m → AreRight m self.old → AreRight m self.new }
     {
         let key = key.number();
@@ -123,7 +123,7 @@ impl PieceSums {
     fn drop_at(&mut self, key: KeyNumber)
         requires { IsEnd key self.old }
         ensures value { self.new ≡ dropped key self.old }
-        ensures rises { Rises self.old }
+        ensures rises { StartsRise self.old }
     {
         let root = self.root.take();
         self.root = sum_tree::remove(root, key);
@@ -139,12 +139,12 @@ impl PieceSums {
         ensures right { (m : ℕ → ℕ → ℤ) → IsAdditive m → AreTold (S.says source.now) m → AreRight m self.old
             → IfSome result (λ sum. sum ≡ m range.low range.high) × AreRight m self.new }
         ensures value { IfSome result (λ sum. sum ≡ total_in range self.new) }
-        ensures known { OnSome result (AreKnown range self.new) }
+        ensures known { OnSome result (SumsAreKnown range self.new) }
         ensures ends { OnSome result (IsEnd range.low self.new × IsEnd range.high self.new) }
         ensures more { Extends (S.says source.now) self.old self.new }
-        ensures same { IsEnd range.low self.old → IsEnd range.high self.old → AreKnown range self.old
+        ensures same { IsEnd range.low self.old → IsEnd range.high self.old → SumsAreKnown range self.old
             → self.new ≡ self.old }
-        ensures found { IsEnd range.low self.old → IsEnd range.high self.old → AreKnown range self.old
+        ensures found { IsEnd range.low self.old → IsEnd range.high self.old → SumsAreKnown range self.old
             → distance_in range self.old < 2 ^ 127 → IsSome result }
     {
         let Some((first, last)) = range.first_and_last() else {
@@ -230,7 +230,7 @@ impl PieceSums {
         sum: i128,
         source: &S,
     ) -> bool
-        requires found { piece_at at self.old ≡ Some (start, sum) }
+        requires found { sum_piece_at at self.old ≡ Some (start, sum) }
         requires apart { IsEnd at self.old → ⊥ }
         ensures more { Extends (S.says source.now) self.old self.new }
         ensures cut { IsTrue result → IsEnd at self.new }
@@ -247,7 +247,7 @@ impl PieceSums {
         sum: i128,
         source: &S,
     ) -> bool
-        requires found { piece_at at self.old ≡ Some (start, sum) }
+        requires found { sum_piece_at at self.old ≡ Some (start, sum) }
         requires apart { IsEnd at self.old → ⊥ }
         ensures more { Extends (S.says source.now) self.old self.new }
         ensures cut { IsTrue result → IsEnd at self.new }
@@ -268,8 +268,8 @@ impl PieceSums {
         requires { (first ≤ start) × (start ≤ last) }
         ensures more { Extends (S.says source.now) self.old self.new }
         ensures value { IfSome result (λ sum. sum ≡ total_in (span first last) self.new) }
-        ensures known { OnSome result (AreKnown (span first last) self.new) }
-        ensures rises { OnSome result (Rises self.new) }
+        ensures known { OnSome result (SumsAreKnown (span first last) self.new) }
+        ensures rises { OnSome result (StartsRise self.new) }
     {
         if !self.learn(start, last, source) {
             return None;
@@ -321,8 +321,8 @@ impl PieceSums {
 
     /// The piece that contains the key: its start and its sum.
     fn piece_at(&self, key: KeyNumber) -> Option<Entry>
-        ensures value { result ≡ piece_at key self.now }
-        ensures rises { Rises self.now }
+        ensures value { result ≡ sum_piece_at key self.now }
+        ensures rises { StartsRise self.now }
     {
         sum_tree::last_at(&self.root, key)
     }
@@ -330,7 +330,7 @@ impl PieceSums {
     /// The start of the first piece that begins above the key, or `GREATEST_BOUND` if there is none.
     fn next_at(&self, key: KeyNumber) -> BoundNumber
         ensures value { result ≡ next_at key self.now }
-        ensures rises { Rises self.now }
+        ensures rises { StartsRise self.now }
     {
         sum_tree::next_above(&self.root, key)
     }
@@ -341,7 +341,7 @@ impl PieceSums {
         requires { IsEnd at self.old → ⊥ }
         ensures ok { IsTrue result → self.new ≡ given start lower (put at upper self.old) }
         ensures err { (IsTrue result → ⊥) → self.new ≡ self.old }
-        ensures rises { Rises self.old }
+        ensures rises { StartsRise self.old }
     {
         if !self.put(at, upper) {
             return false;
@@ -356,7 +356,7 @@ impl PieceSums {
         requires { IsEnd key self.old → ⊥ }
         ensures ok { IsTrue result → self.new ≡ put key sum self.old }
         ensures err { (IsTrue result → ⊥) → self.new ≡ self.old }
-        ensures rises { Rises self.old }
+        ensures rises { StartsRise self.old }
     {
         if self.len == usize::MAX {
             return false;
@@ -374,7 +374,7 @@ impl PieceSums {
     /// Sets the sum of the piece that begins at the key.
     fn give(&mut self, key: KeyNumber, sum: i128)
         ensures value { self.new ≡ given key sum self.old }
-        ensures rises { Rises self.old }
+        ensures rises { StartsRise self.old }
     {
         sum_tree::give(&mut self.root, key, sum);
     }

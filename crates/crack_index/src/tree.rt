@@ -2,10 +2,10 @@
 //! passes its nodes in. Look-ups and moves of marks take no memory.
 ghost use Rattle.std.specs.Prelude.{◌≡◌, ◌+◌, ◌-◌, ◌^◌, ◌<◌, ◌≤◌, max, length, [], ◌∷◌, ◌++◌, map, List, ℕ, vec_len};
 ghost use Rattle.std.specs.Prelude.{vec_capacity, OnOk, IfOk, IfErr};
-ghost use Rattle.crack_index.specs.Marks.{Rising, added, last_mark, next_mark, first_behind, raised};
+ghost use Rattle.crack_index.specs.Marks.{Rising, with_mark, last_mark, next_mark, first_behind, raised};
 ghost use Rattle.crack_index.specs.Marks.{lowered_at, removed, size_between, pieces_from};
 ghost use Rattle.crack_index.specs.Keeps.{height_of, IsBalanced, IsTall, DifferByAtMost};
-ghost use Rattle.crack_index.specs.Trees.{Grown, marks_of};
+ghost use Rattle.crack_index.specs.Trees.{Grown, marks_in_tree};
 ghost use Rattle.crack_index.specs.Rotations.{IsHeightOver};
 ghost use Rattle.crack_index.specs.declared.mark.Mark.{Mark};
 ghost use Rattle.crack_row.specs.declared.Bound.{Bound};
@@ -31,12 +31,12 @@ pub(crate) struct Node {
 impl Model for Node {
     ghost use Rattle.std.specs.Prelude.{◌∷◌, ◌++◌, length};
     ghost use Rattle.crack_index.specs.Keeps.{IsBalanced};
-    ghost use Rattle.crack_index.specs.Trees.{Grown, marks_of};
+    ghost use Rattle.crack_index.specs.Trees.{Grown, marks_in_tree};
     ghost use Rattle.std.proofs.Common.{arith, length-append};
 
     ghost Value = { Grown };
 
-    ghost view = { λ n. record { marks = marks_of n.left ++ n.mark ∷ marks_of n.right; height = n.height } };
+    ghost view = { λ n. record { marks = marks_in_tree n.left ++ n.mark ∷ marks_in_tree n.right; height = n.height } };
 
     ghost invariant = { λ n. IsBalanced n.left n.mark n.right n.height };
 
@@ -69,7 +69,7 @@ impl Node {
 
     /// Takes the node apart. The node is left without children.
     fn open(&mut self) -> Parts
-        ensures marks { self.old.marks ≡ marks_of result.left ++ result.mark ∷ marks_of result.right }
+        ensures marks { self.old.marks ≡ marks_in_tree result.left ++ result.mark ∷ marks_in_tree result.right }
         ensures balanced { IsBalanced result.left result.mark result.right self.old.height }
     {
         let kept = self.mark;
@@ -86,7 +86,7 @@ impl Node {
 /// The height of a tree, 0 if it is empty. O(1).
 pub(crate) fn height(link: &Link) -> u32
     ensures value { result ≡ height_of link.now }
-    ensures tall { IsTall (length (marks_of link.now)) (height_of link.now) }
+    ensures tall { IsTall (length (marks_in_tree link.now)) (height_of link.now) }
 {
     match link {
         None => 0,
@@ -96,7 +96,7 @@ pub(crate) fn height(link: &Link) -> u32
 
 /// The last mark whose bound is at or below the number. O(log marks), one comparison per level.
 pub(crate) fn last_at(link: &Link, number: KeyNumber) -> Option<Mark>
-    ensures { result ≡ last_mark number (marks_of link.now) }
+    ensures { result ≡ last_mark number (marks_in_tree link.now) }
 {
     let mut found = None;
     let mut here = link;
@@ -119,7 +119,7 @@ pub(crate) fn last_at(link: &Link, number: KeyNumber) -> Option<Mark>
 
 /// The first mark whose bound is above the number. O(log marks), one comparison per level.
 pub(crate) fn next_above(link: &Link, number: KeyNumber) -> Option<Mark>
-    ensures { result ≡ next_mark number (marks_of link.now) }
+    ensures { result ≡ next_mark number (marks_in_tree link.now) }
 {
     let mut found = None;
     let mut here = link;
@@ -142,8 +142,8 @@ pub(crate) fn next_above(link: &Link, number: KeyNumber) -> Option<Mark>
 
 /// The last mark whose bound is at or below the number, and the first above it. O(log marks), one comparison per level.
 pub(crate) fn neighbours(link: &Link, number: KeyNumber) -> (Option<Mark>, Option<Mark>)
-    ensures below { result.0 ≡ last_mark number (marks_of link.now) }
-    ensures above { result.1 ≡ next_mark number (marks_of link.now) }
+    ensures below { result.0 ≡ last_mark number (marks_in_tree link.now) }
+    ensures above { result.1 ≡ next_mark number (marks_in_tree link.now) }
 {
     let mut below = None;
     let mut above = None;
@@ -168,7 +168,7 @@ pub(crate) fn neighbours(link: &Link, number: KeyNumber) -> (Option<Mark>, Optio
 
 /// The first mark after the place. O(log marks), one comparison per level.
 pub(crate) fn first_behind(link: &Link, place: usize) -> Option<Mark>
-    ensures { result ≡ first_behind place (marks_of link.now) }
+    ensures { result ≡ first_behind place (marks_in_tree link.now) }
 {
     let mut found = None;
     let mut here = link;
@@ -191,9 +191,9 @@ pub(crate) fn first_behind(link: &Link, place: usize) -> Option<Mark>
 
 /// Inserts a mark into the tree, in the node that is passed in. O(log marks), takes no memory.
 pub(crate) fn insert(link: Link, mark: Mark, mut node: Box<Node>) -> Box<Node>
-    requires rising { Rising (added mark (marks_of link)) }
-    requires few { length (marks_of link) < 2 ^ 64 }
-    ensures marks { result.value.marks ≡ added mark (marks_of link) }
+    requires rising { Rising (with_mark mark (marks_in_tree link)) }
+    requires few { length (marks_in_tree link) < 2 ^ 64 }
+    ensures marks { result.value.marks ≡ with_mark mark (marks_in_tree link) }
     ensures not_lower { height_of link ≤ result.value.height }
     ensures one_higher { result.value.height ≤ height_of link + 1 }
 {
@@ -214,10 +214,10 @@ pub(crate) fn insert(link: Link, mark: Mark, mut node: Box<Node>) -> Box<Node>
 /// Makes a tree of two subtrees and the mark between them, in this node. One subtree may be two levels higher than
 /// the other; then the tree is rotated. O(1).
 fn join(left: Link, mark: Mark, right: Link, node: Box<Node>) -> Box<Node>
-    requires rising { Rising (marks_of left ++ mark ∷ marks_of right) }
+    requires rising { Rising (marks_in_tree left ++ mark ∷ marks_in_tree right) }
     requires near { DifferByAtMost 2 (height_of left) (height_of right) }
     requires fits { max (height_of left) (height_of right) ≤ 2 ^ 31 }
-    ensures marks { result.value.marks ≡ marks_of left ++ mark ∷ marks_of right }
+    ensures marks { result.value.marks ≡ marks_in_tree left ++ mark ∷ marks_in_tree right }
     ensures height { IsHeightOver (height_of left) (height_of right) result.value.height }
 {
     let (high, low) = (height(&left), height(&right));
@@ -231,10 +231,10 @@ fn join(left: Link, mark: Mark, right: Link, node: Box<Node>) -> Box<Node>
 /// Makes a tree of two subtrees and the mark between them, in this node. The subtrees' heights differ by at most
 /// one. O(1).
 fn with_children(left: Link, mark: Mark, right: Link, mut node: Box<Node>) -> Box<Node>
-    requires rising { Rising (marks_of left ++ mark ∷ marks_of right) }
+    requires rising { Rising (marks_in_tree left ++ mark ∷ marks_in_tree right) }
     requires even { DifferByAtMost 1 (height_of left) (height_of right) }
     requires fits { max (height_of left) (height_of right) + 1 < 2 ^ 32 }
-    ensures marks { result.value.marks ≡ marks_of left ++ mark ∷ marks_of right }
+    ensures marks { result.value.marks ≡ marks_in_tree left ++ mark ∷ marks_in_tree right }
     ensures height { result.value.height ≡ max (height_of left) (height_of right) + 1 }
 {
     let height = height(&left).max(height(&right)) + 1;
@@ -249,10 +249,10 @@ fn with_children(left: Link, mark: Mark, right: Link, mut node: Box<Node>) -> Bo
 
 /// Rotates a tree whose left subtree is two levels higher. `spare` becomes a node below the top.
 fn lean_left(mut top: Box<Node>, mark: Mark, right: Link, spare: Box<Node>) -> Box<Node>
-    requires rising { Rising (top.value.marks ++ mark ∷ marks_of right) }
+    requires rising { Rising (top.value.marks ++ mark ∷ marks_in_tree right) }
     requires two_higher { top.value.height ≡ height_of right + 2 }
     requires fits { top.value.height ≤ 2 ^ 31 }
-    ensures marks { result.value.marks ≡ top.value.marks ++ mark ∷ marks_of right }
+    ensures marks { result.value.marks ≡ top.value.marks ++ mark ∷ marks_in_tree right }
     ensures not_lower { top.value.height ≤ result.value.height }
     ensures one_higher { result.value.height ≤ top.value.height + 1 }
 {
@@ -276,10 +276,10 @@ fn lean_left(mut top: Box<Node>, mark: Mark, right: Link, spare: Box<Node>) -> B
 
 /// Rotates a tree whose right subtree is two levels higher. `spare` becomes a node below the top.
 fn lean_right(left: Link, mark: Mark, mut top: Box<Node>, spare: Box<Node>) -> Box<Node>
-    requires rising { Rising (marks_of left ++ mark ∷ top.value.marks) }
+    requires rising { Rising (marks_in_tree left ++ mark ∷ top.value.marks) }
     requires two_higher { top.value.height ≡ height_of left + 2 }
     requires fits { top.value.height ≤ 2 ^ 31 }
-    ensures marks { result.value.marks ≡ marks_of left ++ mark ∷ top.value.marks }
+    ensures marks { result.value.marks ≡ marks_in_tree left ++ mark ∷ top.value.marks }
     ensures not_lower { top.value.height ≤ result.value.height }
     ensures one_higher { result.value.height ≤ top.value.height + 1 }
 {
@@ -311,7 +311,7 @@ struct First {
 /// Removes the first mark from a tree, and frees its node. O(log marks), takes no memory.
 fn take_first(mut node: Box<Node>) -> First
     requires few { length node.value.marks < 2 ^ 64 }
-    ensures marks { node.value.marks ≡ result.mark ∷ marks_of result.rest }
+    ensures marks { node.value.marks ≡ result.mark ∷ marks_in_tree result.rest }
     ensures not_higher { height_of result.rest ≤ node.value.height }
     ensures one_lower { node.value.height ≤ height_of result.rest + 1 }
 {
@@ -329,8 +329,8 @@ fn take_first(mut node: Box<Node>) -> First
 
 /// Removes the mark of this bound, if the tree has it, and frees a node. O(log marks), takes no memory.
 pub(crate) fn remove(link: Link, bound: KeyNumber) -> Link
-    requires few { length (marks_of link) < 2 ^ 64 }
-    ensures marks { marks_of result ≡ removed bound (marks_of link) }
+    requires few { length (marks_in_tree link) < 2 ^ 64 }
+    ensures marks { marks_in_tree result ≡ removed bound (marks_in_tree link) }
     ensures not_higher { height_of result ≤ height_of link }
     ensures one_lower { height_of link ≤ height_of result + 1 }
 {
@@ -356,7 +356,7 @@ pub(crate) fn remove(link: Link, bound: KeyNumber) -> Link
 /// Moves each bound at or above `low` that is at the place up by one. O(log marks + marks at the place).
 pub(crate) fn raise(link: &mut Link, low: KeyNumber, place: usize)
     requires { place < usize.MAX }
-    ensures marks { marks_of link.new ≡ map (raised low place) (marks_of link.old) }
+    ensures marks { marks_in_tree link.new ≡ map (raised low place) (marks_in_tree link.old) }
     ensures height { height_of link.new ≡ height_of link.old }
 {
     let Some(node) = link else {
@@ -382,7 +382,7 @@ pub(crate) fn raise(link: &mut Link, low: KeyNumber, place: usize)
 /// Moves each bound that is at the place down by one. O(log marks + marks at the place).
 pub(crate) fn lower_at(link: &mut Link, place: usize)
     requires { 0 < place }
-    ensures marks { marks_of link.new ≡ map (lowered_at place) (marks_of link.old) }
+    ensures marks { marks_in_tree link.new ≡ map (lowered_at place) (marks_in_tree link.old) }
     ensures height { height_of link.new ≡ height_of link.old }
 {
     let Some(node) = link else {
@@ -415,11 +415,11 @@ struct Edge {
 /// Appends the sizes of the pieces that end at the tree's marks, in order. The first piece begins at `last`, which
 /// becomes the edge at the last mark. O(marks), takes no memory.
 fn append_pieces(link: &Link, last: &mut Edge, pieces: &mut Vec<PieceSize>)
-    requires room { vec_len pieces.old + length (marks_of link.now) ≤ vec_capacity pieces.old }
+    requires room { vec_len pieces.old + length (marks_in_tree link.now) ≤ vec_capacity pieces.old }
     ensures made { (rest : List Mark) (high : Bound) (to : ℕ)
-        → pieces.old.items ++ pieces_from last.old.bound last.old.position (marks_of link.now ++ rest) high to
+        → pieces.old.items ++ pieces_from last.old.bound last.old.position (marks_in_tree link.now ++ rest) high to
         ≡ pieces.new.items ++ pieces_from last.new.bound last.new.position rest high to }
-    ensures len { vec_len pieces.new ≡ vec_len pieces.old + length (marks_of link.now) }
+    ensures len { vec_len pieces.new ≡ vec_len pieces.old + length (marks_in_tree link.now) }
     ensures capacity { vec_capacity pieces.new ≡ vec_capacity pieces.old }
 {
     let Some(node) = link else {
@@ -447,9 +447,9 @@ pub(crate) fn piece_sizes(
     keys: KeyRange,
     len: usize,
 ) -> Result<Vec<PieceSize>, Refusal>
-    requires counted { length (marks_of link.now) ≡ marks }
+    requires counted { length (marks_in_tree link.now) ≡ marks }
     requires few { marks < usize.MAX }
-    ensures ok { IfOk result (λ v. v.items ≡ pieces_from (record { 0 = keys.low }) 0 (marks_of link.now)
+    ensures ok { IfOk result (λ v. v.items ≡ pieces_from (record { 0 = keys.low }) 0 (marks_in_tree link.now)
         (record { 0 = keys.high }) len) }
     ensures err { IfErr result (λ e. e ≡ Refusal.OutOfMemory) }
 {

@@ -3,14 +3,14 @@
 ghost use Rattle.std.specs.Prelude.{ℕ, ◌≡◌, ◌<◌, ◌≤◌, reverse, length, All, Contains, IfSome, None, is_some};
 ghost use Rattle.crack_index.specs.Marks.{Rising, next_mark, last_mark};
 ghost use Rattle.crack_index.specs.Steps.{Goes, StepsUp, StepsDown};
-ghost use Rattle.crack_index.specs.Trees.{marks_of};
+ghost use Rattle.crack_index.specs.Trees.{marks_in_tree};
 ghost use Rattle.crack_index.specs.Walks.{Climbs, Descends};
 
 use crate::tree::{Link, Node};
 use crate::{Mark, Visitor};
 use crack_row::KeyNumber;
 
-/// The state of a walk.
+/// How far a walk over the marks has come.
 #[derive(Clone, Copy)]
 struct Way {
     /// The place of the last visit, whose bounds move; at first a place from which none can move.
@@ -23,15 +23,15 @@ struct Way {
 /// step for each mark at the visited places.
 #[inline(always)]
 pub(crate) fn climb<V: Visitor>(link: &mut Link, number: KeyNumber, visitor: &mut V) -> Option<Mark>
-    requires rising { Rising (marks_of link.old) }
-    requires small { All (λ m. m.position < usize.MAX) (marks_of link.old) }
+    requires rising { Rising (marks_in_tree link.old) }
+    requires small { All (λ m. m.position < usize.MAX) (marks_in_tree link.old) }
     requires ready { V.is_ready visitor.old }
-    ensures climbs { Climbs V.visits (next_mark number (marks_of link.old)) (marks_of link.old) visitor.old result
-        (marks_of link.new) visitor.new }
+    ensures climbs { Climbs V.visits (next_mark number (marks_in_tree link.old)) (marks_in_tree link.old) visitor.old result
+        (marks_in_tree link.new) visitor.new }
     ensures ready { V.is_ready visitor.new }
-    ensures there { IfSome result (λ m. Contains (marks_of link.new) m) }
-    ensures rising { Rising (marks_of link.new) }
-    ensures long { length (marks_of link.new) ≡ length (marks_of link.old) }
+    ensures there { IfSome result (λ m. Contains (marks_in_tree link.new) m) }
+    ensures rising { Rising (marks_in_tree link.new) }
+    ensures long { length (marks_in_tree link.new) ≡ length (marks_in_tree link.old) }
 {
     let mut way = Way {
         last: usize::MAX,
@@ -51,14 +51,14 @@ pub(crate) fn descend<V: Visitor>(
     number: KeyNumber,
     visitor: &mut V,
 ) -> Option<Mark>
-    requires rising { Rising (marks_of link.old) }
+    requires rising { Rising (marks_in_tree link.old) }
     requires ready { V.is_ready visitor.old }
-    ensures descends { Descends V.visits (last_mark number (marks_of link.old)) (marks_of link.old) visitor.old result
-        (marks_of link.new) visitor.new }
+    ensures descends { Descends V.visits (last_mark number (marks_in_tree link.old)) (marks_in_tree link.old) visitor.old result
+        (marks_in_tree link.new) visitor.new }
     ensures ready { V.is_ready visitor.new }
-    ensures there { IfSome result (λ m. Contains (marks_of link.new) m) }
-    ensures rising { Rising (marks_of link.new) }
-    ensures long { length (marks_of link.new) ≡ length (marks_of link.old) }
+    ensures there { IfSome result (λ m. Contains (marks_in_tree link.new) m) }
+    ensures rising { Rising (marks_in_tree link.new) }
+    ensures long { length (marks_in_tree link.new) ≡ length (marks_in_tree link.old) }
 {
     let mut way = Way {
         last: 0,
@@ -112,8 +112,8 @@ fn raise_along<V: Visitor>(
     }
 }
 
-/// Does the part of a walk up that lies in this tree, whose bounds are all above the walk's first number, so none
-/// is compared with it. Returns whether the walk has ended.
+/// Does the part of a walk up that lies in this tree. All its bounds are above the number from which the walk began,
+/// so none is compared with it. Returns whether the walk has ended.
 fn raise_all<V: Visitor>(node: &mut Node, way: &mut Way, visitor: &mut V) -> bool
     requires going { way.old.ended ≡ None }
     requires above { (number : ℕ) × All (λ m. number < m.bound.0) node.old.marks }
@@ -186,8 +186,8 @@ fn lower_along<V: Visitor>(
     }
 }
 
-/// Does the part of a walk down that lies in this tree, whose bounds aren't above the walk's first number, so none
-/// is compared with it. Returns whether the walk has ended.
+/// Does the part of a walk down that lies in this tree. None of its bounds is above the number from which the walk
+/// began, so none is compared with it. Returns whether the walk has ended.
 fn lower_all<V: Visitor>(node: &mut Node, way: &mut Way, visitor: &mut V) -> bool
     requires going { way.old.ended ≡ None }
     requires below { (number : ℕ) × All (λ m. m.bound.0 ≤ number) node.old.marks }
@@ -219,7 +219,9 @@ fn lower_all<V: Visitor>(node: &mut Node, way: &mut Way, visitor: &mut V) -> boo
     }
 }
 
-/// Does the step of a walk up at a bound above the walk's first number. Returns whether the walk has ended.
+/// Does one step of a walk up, at a bound above the number from which the walk began. A bound at the place of the
+/// last visit moves up by one. At any other the visitor is called: the bound moves up by one, or the visitor ends the
+/// walk. Returns whether the walk has ended.
 #[inline(always)]
 fn step_up<V: Visitor>(mark: &mut Mark, way: &mut Way, visitor: &mut V) -> bool
     requires going { way.old.ended ≡ None }
@@ -244,7 +246,9 @@ fn step_up<V: Visitor>(mark: &mut Mark, way: &mut Way, visitor: &mut V) -> bool
     }
 }
 
-/// Does the step of a walk down at a bound at or below the walk's first number. Returns whether the walk has ended.
+/// Does one step of a walk down, at a bound at or below the number from which the walk began. A bound at the place of
+/// the last visit moves down by one. At any other the visitor is called: the bound moves down by one, or the visitor
+/// ends the walk. A bound at the place 0 ends it too. Returns whether the walk has ended.
 #[inline(always)]
 fn step_down<V: Visitor>(mark: &mut Mark, way: &mut Way, visitor: &mut V) -> bool
     requires going { way.old.ended ≡ None }

@@ -12,7 +12,7 @@ use Rattle.crack_state.specs.Steps.{lifted}
 use Rattle.crack_state.specs.Pulled.{buried_all}
 use Rattle.crack_state.specs.Filled.{IsFilled}
 use Rattle.crack_state.proofs.FilledLaws.{FillsOn, AreFilled, doomed_first, filled_by, fills-on}
-use Rattle.crack_merge.specs.Merges.{Begins, fills, takes_last, PullsOut, PullsAll, begins, pulls}
+use Rattle.crack_merge.specs.Merges.{BeginsPull, fills, takes_last, PullsOut, PullsAll, begins, pulls}
 use Rattle.crack_merge.proofs.PulledInBulk.{Pulls-Draws}
 
 -- a search from a place on finds the same as one from an earlier place, if no row of the range is between them
@@ -27,7 +27,7 @@ found-later r keys at from place none_at none first = record {
 none-later : (r : Range) (keys : List ℕ) (at from : ℕ) → NoneIn r keys 0 at → Finds r keys at None → Finds r keys from None
 none-later r keys at from none_at none = λ k from_on up_to. elim (cases_lt k at) [ inl l ↦ none_at k (omega arith) l | inr l ↦ none k l up_to ]
 
-begins-later : (fillers : Range) (t : State) (at seen next : ℕ) (c : Carried) → NoneIn fillers (keys_at t.cells t.pending_in) 0 at → NoneIn fillers (keys_at t.cells t.pending_in) 0 seen → Begins fillers t at next c → Begins fillers t seen next c
+begins-later : (fillers : Range) (t : State) (at seen next : ℕ) (c : Carried) → NoneIn fillers (keys_at t.cells t.pending_in) 0 at → NoneIn fillers (keys_at t.cells t.pending_in) 0 seen → BeginsPull fillers t at next c → BeginsPull fillers t seen next c
 begins-later fillers t at seen next c none_at none (fills place found) = fills place (found-later fillers (keys_at t.cells t.pending_in) at seen place none_at none found)
 begins-later fillers t at seen next c none_at none (takes_last left) = takes_last (none-later fillers (keys_at t.cells t.pending_in) at seen none_at left)
 

@@ -19,7 +19,7 @@ use Rattle.crack_state.proofs.PullLaws.{IsIntact-returned, Follows-returned}
 use Rattle.crack_state.proofs.StepLaws.{IsIntact-lifted, IsIntact-pushed_on, IsIntact-appended}
 use Rattle.crack_merge.specs.Loops.{PutsIn}
 use Rattle.crack_merge.specs.Merges.{Carries, buries, evicts, ends, goes_on}
-use Rattle.crack_merge.specs.Near.{pieces_of, MovesNear}
+use Rattle.crack_merge.specs.Near.{piece_count, MovesNear}
 use Rattle.crack_merge.proofs.EdgeLaws.{IsRangeOf, IsRangeOf-follows, high_within, StaysOutside, StaysOutside-same, StaysOutside-trans, StaysOutside-appended}
 use Rattle.crack_merge.proofs.Rippling.{pieces_ahead-few, Ripples, Ripples-refl, Ripples-pushed_on}
 
@@ -57,13 +57,13 @@ tallies_evicted s i c inside intact now pushes =
     }
 
 -- it moved at most as many rows as the range has pieces
-moved_few : (s : State) (r : Range) (i : ℕ) (c : Carried) → IsIntact s [] → r.low ≤ hand_key (lifted i s) → Ripples r (lifted i s) c → c.store.tally.put_in < greatest → c.store.tally.moved + s.tally.put_in * pieces_of s r ≤ s.tally.moved + c.store.tally.put_in * pieces_of s r
+moved_few : (s : State) (r : Range) (i : ℕ) (c : Carried) → IsIntact s [] → r.low ≤ hand_key (lifted i s) → Ripples r (lifted i s) c → c.store.tally.put_in < greatest → c.store.tally.moved + s.tally.put_in * piece_count s r ≤ s.tally.moved + c.store.tally.put_in * piece_count s r
 moved_few s r i c intact above ripples exact =
     let counter = raised_counter s.tally.put_in in
     let same = ap (λ (x : State). x.tally.put_in) ripples.pushes.same in
     let one : c.store.tally.put_in ≡ s.tally.put_in + 1 = same ∙ counter.exact (omega (arith, exact, same)) in
     let few = pieces_ahead-few r.low (hand_key (lifted i s)) r.high (bounds_of s.marks) above in
-    more_moved c.store.tally.moved s.tally.moved s.tally.put_in c.store.tally.put_in (pieces_of s r) one (omega (arith, ripples.moved, few))
+    more_moved c.store.tally.moved s.tally.moved s.tally.put_in c.store.tally.put_in (piece_count s r) one (omega (arith, ripples.moved, few))
   where
     more_moved : (moved before put_in after q : ℕ) → after ≡ put_in + 1 → moved ≤ before + q → moved + put_in * q ≤ before + after * q
     more_moved moved before put_in after q one few = rw one (grind arith)

@@ -20,18 +20,18 @@ use Rattle.crack_store.specs.declared.ways.CarryEnd.{CarryEnd}
 use Rattle.crack_store.specs.declared.ways.CarryEnd.TheVariants.{Buries, Evicts, Appends}
 use Rattle.crack_store.specs.Ends.{EndsBy}
 use Rattle.crack_merge.specs.Merges.{IsCeiling, Carries, buries, evicts, ends, goes_on, CarriesIn, carries}
-use Rattle.crack_merge.specs.Loops.{MayEnd, EvictsOver, ended}
+use Rattle.crack_merge.specs.Loops.{MayEnd, EvictsOver, ended_carry}
 
 -- a carry whose pushes have reached a hand that ends it by a rule
-ends_by : (ceiling : Option ℕ) (rule : CarryEnd) (c : Carried) → EndsBy ceiling rule c → Carries ceiling c (ended rule c)
+ends_by : (ceiling : Option ℕ) (rule : CarryEnd) (c : Carried) → EndsBy ceiling rule c → Carries ceiling c (ended_carry rule c)
 ends_by ceiling Buries c by = buries c by
 ends_by None Evicts c by = absurd (by.1 tt)
 ends_by (Some bound) Evicts c by = evicts c bound by.0 refl (elim (cases_lt (hand_key c) bound) [ inl l ↦ absurd (by.1 l) | inr l ↦ l ])
 ends_by ceiling Appends c by = ends c by.0 by.1 by.2
 
-pub carries_by : (ceiling : Option ℕ) (rule : CarryEnd) (c e : Carried) → PushesOn ceiling c e → EndsBy ceiling rule e → Carries ceiling c (ended rule e)
+pub carries_by : (ceiling : Option ℕ) (rule : CarryEnd) (c e : Carried) → PushesOn ceiling c e → EndsBy ceiling rule e → Carries ceiling c (ended_carry rule e)
 carries_by ceiling rule c e (PushesOn.stays d) by = ends_by ceiling rule d by
-carries_by ceiling rule c e (PushesOn.pushes d f lasting below room rest) by = goes_on d (ended rule f) lasting below room (carries_by ceiling rule (pushed_on d) f rest by)
+carries_by ceiling rule c e (PushesOn.pushes d f lasting below room rest) by = goes_on d (ended_carry rule f) lasting below room (carries_by ceiling rule (pushed_on d) f rest by)
 
 -- the rule that ends it is one that may end it
 pub MayEnd-by : (ceiling : Option ℕ) (rule : CarryEnd) (c : Carried) → EndsBy ceiling rule c → MayEnd rule c
@@ -61,7 +61,7 @@ KeepsRest-by ceiling c e (PushesOn.pushes d f lasting below room rest) =
 abbrev pub pending_keys : State → List ℕ
 pending_keys s = keys_at s.cells s.pending_in
 
-pub IsIntact-ended : (rule : CarryEnd) (c : Carried) → MayEnd rule c → IsIntact c.store (c.hand ∷ []) → IsIntact (ended rule c) []
+pub IsIntact-ended : (rule : CarryEnd) (c : Carried) → MayEnd rule c → IsIntact c.store (c.hand ∷ []) → IsIntact (ended_carry rule c) []
 IsIntact-ended Buries c may intact = IsIntact-buried c may intact
 IsIntact-ended Evicts c may intact = IsIntact-returned c may intact
 IsIntact-ended Appends c may intact = IsIntact-appended c may.1 intact
@@ -94,19 +94,19 @@ pending_keys-buried c intact =
     keys-off c.hand.slot s.cells (buried c).cells s.pending_in (AgreeOff-set s.cells c.hand.slot (record { generation = c.hand.generation + 1; value = None })) apart.off_pending
 
 -- the hand goes after the last one
-pub pending_keys-returned : (c : Carried) → pending_keys (ended Evicts c) ≡ pending_keys c.store ++ hand_key c ∷ []
+pub pending_keys-returned : (c : Carried) → pending_keys (ended_carry Evicts c) ≡ pending_keys c.store ++ hand_key c ∷ []
 pending_keys-returned c = map-append (key_at c.store.cells) c.store.pending_in (c.hand ∷ [])
 
 module _ (ceiling : Option ℕ) (r : Range) (high : IsCeiling ceiling r) where
   -- a search finds the same before a carry ends and after it
-  pub Finds-ended : (rule : CarryEnd) (c : Carried) (from : ℕ) (found : Option ℕ) → IsIntact c.store (c.hand ∷ []) → EvictsOver ceiling rule (hand_key c) → Finds r (pending_keys c.store) from found → Finds r (pending_keys (ended rule c)) from found
+  pub Finds-ended : (rule : CarryEnd) (c : Carried) (from : ℕ) (found : Option ℕ) → IsIntact c.store (c.hand ∷ []) → EvictsOver ceiling rule (hand_key c) → Finds r (pending_keys c.store) from found → Finds r (pending_keys (ended_carry rule c)) from found
   Finds-ended Buries c from found intact over finds = rw (pending_keys-buried c intact) finds
   Finds-ended Evicts c from found intact over finds = rw (pending_keys-returned c) (Finds-push r (pending_keys c.store) (hand_key c) from found (not_inside ceiling r (hand_key c) high over) finds)
   Finds-ended Appends c from found intact over finds = finds
 
 -- if room is made while a row is in hand, its carry ends by the same rule, in the same way
 pub record EndsAlike (rule : CarryEnd) (c d : Carried) : Type 0 where
-  pub same : SameButRoom (ended rule c) (ended rule d)
+  pub same : SameButRoom (ended_carry rule c) (ended_carry rule d)
   pub may : MayEnd rule c → MayEnd rule d
 
 pub EndsAlike-room : (rule : CarryEnd) (c d : Carried) → SameButRoom c.store d.store → d.hand ≡ c.hand → EndsAlike rule c d
@@ -122,7 +122,7 @@ pub record HasRoom (s : State) : Type 0 where
   pub column : 0 < s.column_room
   pub pending_in : 0 < s.in_room
 
-pub HasRoom-ended : (rule : CarryEnd) (c : Carried) → 1 < c.store.column_room → 1 < c.store.in_room → HasRoom (ended rule c)
+pub HasRoom-ended : (rule : CarryEnd) (c : Carried) → 1 < c.store.column_room → 1 < c.store.in_room → HasRoom (ended_carry rule c)
 HasRoom-ended Buries c column pending_in = record { column = omega arith; pending_in = omega arith }
 HasRoom-ended Evicts c column pending_in = record { column = omega arith; pending_in = omega arith }
 HasRoom-ended Appends c column pending_in = record { column = omega arith; pending_in = omega arith }
@@ -148,18 +148,18 @@ pub record IsOnWay (ceiling : Option ℕ) (r : Range) (s : State) (from : ℕ) (
 
 -- its carry has reached the rule that ends it: the rows up to this one are carried, a search finds the same as before, and as many are left
 pub record Arrives (ceiling : Option ℕ) (r : Range) (s : State) (from : ℕ) (rule : CarryEnd) (e : Carried) : Type 0 where
-  pub carries_in : CarriesIn ceiling r s from (ended rule e)
-  pub finds : (found : Option ℕ) → Finds r (pending_keys e.store) from found → Finds r (pending_keys (ended rule e)) from found
-  pub left : left_in r (ended rule e) ≡ left_in r e.store
+  pub carries_in : CarriesIn ceiling r s from (ended_carry rule e)
+  pub finds : (found : Option ℕ) → Finds r (pending_keys e.store) from found → Finds r (pending_keys (ended_carry rule e)) from found
+  pub left : left_in r (ended_carry rule e) ≡ left_in r e.store
 
-pub Arrives-ended : (ceiling : Option ℕ) (r : Range) → IsCeiling ceiling r → (s : State) (from : ℕ) (c e : Carried) (rule : CarryEnd) → IsOnWay ceiling r s from c → Carries ceiling c (ended rule e) → IsIntact e.store (e.hand ∷ []) → EvictsOver ceiling rule (hand_key e) → Arrives ceiling r s from rule e
+pub Arrives-ended : (ceiling : Option ℕ) (r : Range) → IsCeiling ceiling r → (s : State) (from : ℕ) (c e : Carried) (rule : CarryEnd) → IsOnWay ceiling r s from c → Carries ceiling c (ended_carry rule e) → IsIntact e.store (e.hand ∷ []) → EvictsOver ceiling rule (hand_key e) → Arrives ceiling r s from rule e
 Arrives-ended ceiling r high s from c e rule way carried intact over = record {
-  carries_in = way.carries_in (ended rule e) carried;
+  carries_in = way.carries_in (ended_carry rule e) carried;
   finds = λ found. Finds-ended ceiling r high rule e from found intact over;
   left = left_in-ended rule over;
 }
   where
-    left_in-ended : (by : CarryEnd) → EvictsOver ceiling by (hand_key e) → left_in r (ended by e) ≡ left_in r e.store
+    left_in-ended : (by : CarryEnd) → EvictsOver ceiling by (hand_key e) → left_in r (ended_carry by e) ≡ left_in r e.store
     left_in-ended Buries over = rw (pending_keys-buried e intact) refl
     left_in-ended Evicts over =
         let other = is_in-false r (hand_key e) (not_inside ceiling r (hand_key e) high over) in
@@ -168,13 +168,13 @@ Arrives-ended ceiling r high s from c e rule way carried intact over = record {
 
 -- room is made for the next, which is lifted
 module _ (ceiling : Option ℕ) (r : Range) (s : State) (from place : ℕ) (rule : CarryEnd) (e d : Carried) (arrives : Arrives ceiling r s from rule e) (alike : EndsAlike rule e d) (found : Finds r (pending_keys e.store) from (Some place)) where
-  pub IsOnWay-next : 1 < d.store.column_room → 1 < d.store.in_room → IsOnWay ceiling r s place (lifted place (ended rule d))
+  pub IsOnWay-next : 1 < d.store.column_room → 1 < d.store.in_room → IsOnWay ceiling r s place (lifted place (ended_carry rule d))
   IsOnWay-next column pending_in = record {
-    carries_in = λ t rest. carries from place (ended rule e) (ended rule d) t arrives.carries_in (arrives.finds (Some place) found) alike.same rest;
+    carries_in = λ t rest. carries from place (ended_carry rule e) (ended_carry rule d) t arrives.carries_in (arrives.finds (Some place) found) alike.same rest;
     room = let left = HasRoom-ended rule d column pending_in in record { column = left.column; pending_in = left.pending_in };
   }
 
-  pub left_in-less : left_in r (lifted place (ended rule d)).store < left_in r e.store
+  pub left_in-less : left_in r (lifted place (ended_carry rule d)).store < left_in r e.store
   left_in-less =
-      let same : pending_keys (ended rule d) ≡ pending_keys (ended rule e) = ap pending_keys alike.same.same in
-      omega (arith, left_in-lifted r (ended rule d) from place (rw same (arrives.finds (Some place) found)), ap (count_by (is_in r)) same, arrives.left)
+      let same : pending_keys (ended_carry rule d) ≡ pending_keys (ended_carry rule e) = ap pending_keys alike.same.same in
+      omega (arith, left_in-lifted r (ended_carry rule d) from place (rw same (arrives.finds (Some place) found)), ap (count_by (is_in r)) same, arrives.left)

@@ -23,7 +23,7 @@ use Rattle.crack_state.proofs.DrawLaws.{piece_start-most, MetAt-pulled_back, col
 use Rattle.crack_state.proofs.OutsideLaws.{length-outside}
 use Rattle.crack_state.proofs.PullLaws.{IsIntact-pulled_back}
 use Rattle.crack_state.proofs.StepLaws.{IsIntact-lifted}
-use Rattle.crack_merge.specs.Merges.{Begins, fills, takes_last, Pulls, reaches, exchanges, draws, PullsOut, begins, pulls}
+use Rattle.crack_merge.specs.Merges.{BeginsPull, fills, takes_last, Pulls, reaches, exchanges, draws, PullsOut, begins, pulls}
 use Rattle.crack_merge.proofs.PullLaws.{TakesInside, TakesInside-PullsOut, BeginsAt-Begins, PullsAt-Pulls, found_key}
 use Rattle.crack_merge.proofs.RangeLaws.{LacksFirst-missed}
 use Rattle.crack_merge.specs.Near.{fillers_of}
@@ -91,7 +91,7 @@ module _ (s : State) (r : Range) (of : IsRangeOf s r) (intact : IsIntact s []) w
   abbrev HadEach : State → Type 0
   HadEach t = length s.pending_in + length t.pending_out ≡ length t.pending_in + length s.pending_out
 
-  pulled_behind : (u v : State) (c : Carried) (before place at next : ℕ) (doomed : Handle) → TakesInside Ripple r (beyond s r) s u before at → (HadEach u → drop (edge s r.high) u.column ≡ drop (edge s r.high) s.column) → Finds r (keys_at u.cells u.pending_out) before (Some place) → StandsAt u.pending_out place doomed → Begins (beyond s r) u at next c → Pulls doomed c v → HadEach v → drop (edge s r.high) v.column ≡ drop (edge s r.high) s.column
+  pulled_behind : (u v : State) (c : Carried) (before place at next : ℕ) (doomed : Handle) → TakesInside Ripple r (beyond s r) s u before at → (HadEach u → drop (edge s r.high) u.column ≡ drop (edge s r.high) s.column) → Finds r (keys_at u.cells u.pending_out) before (Some place) → StandsAt u.pending_out place doomed → BeginsPull (beyond s r) u at next c → Pulls doomed c v → HadEach v → drop (edge s r.high) v.column ≡ drop (edge s r.high) s.column
   pulled_behind u v c before place at next doomed was go finds stands (takes_last none) pulled each =
       let begin = BeginsAt-Begins (beyond s r) u at next (lifted_last u) was.intact (column_some u (omega (arith, stands.within)) was.intact) (takes_last none) in
       let one = PullsAt-Pulls (lifted_last u) place doomed begin.intact stands v pulled in

@@ -24,7 +24,7 @@ use Rattle.crack_state.proofs.StepLaws.{IsIntact-room}
 use Rattle.crack_merge.specs.Merges.{CarriesAll, CarriesSome, PullsAll, BuriesFew, EvictsFirst}
 use Rattle.crack_merge.proofs.PullLaws.{TakesInside-PullsOut, found_key}
 use Rattle.crack_merge.proofs.RangeLaws.{LacksFirst-missed}
-use Rattle.crack_merge.specs.Near.{PutsInNear, TakesOutNear, MovesNear, fillers_of, pieces_of}
+use Rattle.crack_merge.specs.Near.{PutsInNear, TakesOutNear, MovesNear, fillers_of, piece_count}
 use Rattle.crack_merge.proofs.EdgeLaws.{IsRangeOf, IsRangeOf-follows}
 use Rattle.crack_merge.proofs.Filling.{LosesFirst-pulled, long-pulled, HadEach-pulled, StaysBehind-PullsOut}
 use Rattle.crack_merge.proofs.Putting.{StopsIn, StopsIn-PutsNear, Fills-none, SomeOf-without, All-SomeOf, behind_range, PutsNear-CarriesIn, PutsNear-room, PutsInNear-all}
@@ -102,7 +102,7 @@ TakenOut-pulled s t r of intact all =
         behind = λ each. StaysBehind-PullsOut s r of intact all.from all.seen t all.pulls (HadEach-pulled s r of intact all.from all.seen t was out each);
       };
       tallies = was.advances.tallies;
-      moves = λ exact. moves_none t.tally.moved s.tally.moved s.tally.put_in t.tally.put_in (pieces_of s r) was.moved was.advances.tallies.rises.put_in;
+      moves = λ exact. moves_none t.tally.moved s.tally.moved s.tally.put_in t.tally.put_in (piece_count s r) was.moved was.advances.tallies.rises.put_in;
     }
 
 -- room was made before

@@ -19,7 +19,7 @@ use Rattle.crack_state.proofs.PullLaws.{IsIntact-lifted_last, IsIntact-pulled_ba
 use Rattle.crack_state.proofs.StepLaws.{IsIntact-lifted}
 use Rattle.crack_state.proofs.OutsideLaws.{LacksFirst, LacksFirst-none}
 use Rattle.crack_merge.specs.Loops.{TakesOut}
-use Rattle.crack_merge.specs.Merges.{Begins, fills, takes_last, Pulls, reaches, exchanges, draws, PullsOut, begins, pulls}
+use Rattle.crack_merge.specs.Merges.{BeginsPull, fills, takes_last, Pulls, reaches, exchanges, draws, PullsOut, begins, pulls}
 use Rattle.crack_merge.proofs.RangeLaws.{LacksFirst-found, LacksFirst-missed, LacksFirst-begins, LacksFirst-ends}
 
 -- a pull, from the hand with which it began: the pending deletion at a place was taken out of the column, and no row was put in or moved
@@ -101,7 +101,7 @@ pub record BeginsAt (s : State) (c : Carried) : Type 0 where
 found_within : (fillers : Range) (s : State) (seen place : ℕ) → Finds fillers (keys_at s.cells s.pending_in) seen (Some place) → place < length s.pending_in
 found_within fillers s seen place found = omega (arith, found.within, length-map s.pending_in (key_at s.cells))
 
-pub BeginsAt-Begins : (fillers : Range) (s : State) (seen next : ℕ) (c : Carried) → IsIntact s [] → 0 < length s.column → Begins fillers s seen next c → BeginsAt s c
+pub BeginsAt-Begins : (fillers : Range) (s : State) (seen next : ℕ) (c : Carried) → IsIntact s [] → 0 < length s.column → BeginsPull fillers s seen next c → BeginsAt s c
 BeginsAt-Begins fillers s seen next c intact some (fills place found) =
     let within = found_within fillers s seen place found in
     record {
@@ -137,7 +137,7 @@ pub record TakesInside (policy : Policy) (r fillers : Range) (s t : State) (from
 
 -- one more pull
 module _ (fillers : Range) (s u v : State) (reads : keys_at u.cells u.pending_in ≡ keys_at s.cells u.pending_in) (fewer : length v.pending_out + 1 ≡ length u.pending_out) where
-  pub FillsFirst-Begins : (seen next : ℕ) (c : Carried) → FillsFirst fillers s u seen → Begins fillers u seen next c → v.pending_in ≡ c.store.pending_in → FillsFirst fillers s v next
+  pub FillsFirst-Begins : (seen next : ℕ) (c : Carried) → FillsFirst fillers s u seen → BeginsPull fillers u seen next c → v.pending_in ≡ c.store.pending_in → FillsFirst fillers s v next
   FillsFirst-Begins seen next c was (fills place found) same =
       let on = LacksFirst-found s.cells fillers s.pending_in u.pending_in seen was.lacks place (rw reads at found) in
       let gone = length-remove u.pending_in place on.0 in
@@ -193,7 +193,7 @@ pub found_key : (r : Range) (s : State) (hs : List Handle) (from place : ℕ) (h
 found_key r s hs from place h found stands = rw (keys_at-StandsAt s.cells hs place h stands) at found.holds
 
 -- a doomed row of the range is before the end of the own piece of the hand with which its pull begins
-pub ahead_of_begun : (r fillers : Range) (t : State) (from k seen next : ℕ) (doomed : Handle) (c : Carried) → (fillers.low < fillers.high → r.high ≤ fillers.low) → IsIntact t [] → Finds r (keys_at t.cells t.pending_out) from (Some k) → StandsAt t.pending_out k doomed → Begins fillers t seen next c → (place : ℕ) → StandsAt c.store.column place doomed → place < piece_end c.store (hand_key c)
+pub ahead_of_begun : (r fillers : Range) (t : State) (from k seen next : ℕ) (doomed : Handle) (c : Carried) → (fillers.low < fillers.high → r.high ≤ fillers.low) → IsIntact t [] → Finds r (keys_at t.cells t.pending_out) from (Some k) → StandsAt t.pending_out k doomed → BeginsPull fillers t seen next c → (place : ℕ) → StandsAt c.store.column place doomed → place < piece_end c.store (hand_key c)
 ahead_of_begun r fillers t from k seen next doomed c behind intact finds pending (takes_last none) place stands = ahead_of_last t k doomed intact pending place stands
 ahead_of_begun r fillers t from k seen next doomed c behind intact finds pending (fills i found) place stands =
     let within = found_within fillers t seen i found in
@@ -205,7 +205,7 @@ ahead_of_begun r fillers t from k seen next doomed c behind intact finds pending
 abbrev pub HasRoomFor : State → ℕ → Type 0
 HasRoomFor s seen = (length s.pending_in ≤ seen) ⊎ (0 < s.column_room)
 
-pub HasRoomFor-Begins : (fillers : Range) (t u : State) (seen next place : ℕ) (c : Carried) → Begins fillers t seen next c → PullsAt c u place → HasRoomFor t seen → HasRoomFor u next
+pub HasRoomFor-Begins : (fillers : Range) (t u : State) (seen next place : ℕ) (c : Carried) → BeginsPull fillers t seen next c → PullsAt c u place → HasRoomFor t seen → HasRoomFor u next
 HasRoomFor-Begins fillers t u seen next place c (fills i found) one room = elim room [
   | inl none ↦ absurd (omega (arith, none, found.after, found_within fillers t seen i found))
   | inr some ↦ inr (rw one.column_room some)

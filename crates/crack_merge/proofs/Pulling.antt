@@ -13,7 +13,7 @@ use Rattle.crack_state.specs.Steps.{hand_key, piece_end, buried, IsDoomed}
 use Rattle.crack_state.proofs.AdvanceLaws.{StillReads-buried, keys_still}
 use Rattle.crack_state.proofs.BuryLaws.{IsIntact-buried}
 use Rattle.crack_state.proofs.DrawLaws.{IsDoomed-listed, column_some}
-use Rattle.crack_merge.specs.Merges.{Begins, Pulls, reaches, PullsOut, pulls}
+use Rattle.crack_merge.specs.Merges.{BeginsPull, Pulls, reaches, PullsOut, pulls}
 use Rattle.crack_merge.proofs.PullLaws.{PullsAt, PullsAt-Pulls, BeginsAt, BeginsAt-Begins, ahead_of_begun}
 
 -- a burial leaves the keys of pending insertions as they were
@@ -37,7 +37,7 @@ pub record IsPulling (r fillers : Range) (s : State) (from seen : ℕ) (c : Carr
   pub intact : IsIntact store []
   pub pulls : PullsOut r fillers s before at store
   pub finds : Finds r (keys_at store.cells store.pending_out) before (Some from)
-  pub begun : Begins fillers store at seen c
+  pub begun : BeginsPull fillers store at seen c
 
 module _ (r fillers : Range) (s : State) (from seen : ℕ) (c : Carried) (on : IsPulling r fillers s from seen c) where
   within_store : from < length on.store.pending_out
@@ -114,11 +114,11 @@ module _ (r fillers : Range) (s : State) (from seen : ℕ) (c : Carried) (on : I
       pulling_some : (place : ℕ) → Finds r (keys_at d.store.cells d.store.pending_out) (from + 1) (Some place) → 0 < length d.store.column
       pulling_some place first = column_some (buried d) (omega (arith, (pulling_next place first).after, (pulling_next place first).within, long, one.fewer)) one.intact
 
-      pulling_on : (place next : ℕ) (e : Carried) → Finds r (keys_at d.store.cells d.store.pending_out) (from + 1) (Some place) → Begins fillers (buried d) seen next e → IsPulling r fillers s (place - 1) next e
+      pulling_on : (place next : ℕ) (e : Carried) → Finds r (keys_at d.store.cells d.store.pending_out) (from + 1) (Some place) → BeginsPull fillers (buried d) seen next e → IsPulling r fillers s (place - 1) next e
       pulling_on place next e first begun = record { before = from; at = seen; store = buried d; intact = one.intact; pulls = pulling_done; finds = pulling_next place first; begun = begun }
 
       -- fewer are left
-      pulling_smaller : (place next : ℕ) (e : Carried) → Finds r (keys_at d.store.cells d.store.pending_out) (from + 1) (Some place) → Begins fillers (buried d) seen next e → length e.store.pending_out < length c.store.pending_out
+      pulling_smaller : (place next : ℕ) (e : Carried) → Finds r (keys_at d.store.cells d.store.pending_out) (from + 1) (Some place) → BeginsPull fillers (buried d) seen next e → length e.store.pending_out < length c.store.pending_out
       pulling_smaller place next e first begun =
           let begin = BeginsAt-Begins fillers (buried d) seen next e one.intact (pulling_some place first) begun in
           omega (arith, ap length begin.pending_out, pulling_fewer)
@@ -129,8 +129,8 @@ pub record IsDrawn (r fillers : Range) (s : State) (from seen : ℕ) (c d : Carr
   pub done : PullsOut r fillers s from seen (buried d)
   pub none : Finds r (keys_at d.store.cells d.store.pending_out) (from + 1) None → Finds r (keys_at (buried d).cells (buried d).pending_out) from None
   pub some : (place : ℕ) → Finds r (keys_at d.store.cells d.store.pending_out) (from + 1) (Some place) → 0 < length d.store.column
-  pub on : (place next : ℕ) (e : Carried) → Finds r (keys_at d.store.cells d.store.pending_out) (from + 1) (Some place) → Begins fillers (buried d) seen next e → IsPulling r fillers s (place - 1) next e
-  pub smaller : (place next : ℕ) (e : Carried) → Finds r (keys_at d.store.cells d.store.pending_out) (from + 1) (Some place) → Begins fillers (buried d) seen next e → length e.store.pending_out < length c.store.pending_out
+  pub on : (place next : ℕ) (e : Carried) → Finds r (keys_at d.store.cells d.store.pending_out) (from + 1) (Some place) → BeginsPull fillers (buried d) seen next e → IsPulling r fillers s (place - 1) next e
+  pub smaller : (place next : ℕ) (e : Carried) → Finds r (keys_at d.store.cells d.store.pending_out) (from + 1) (Some place) → BeginsPull fillers (buried d) seen next e → length e.store.pending_out < length c.store.pending_out
 
 pub IsDrawn-Pulls : (r fillers : Range) (s : State) (from seen : ℕ) (c : Carried) → IsPulling r fillers s from seen c → (doomed : Handle) → StandsAt c.store.pending_out from doomed → (d : Carried) → Pulls doomed c (buried d) → d.hand ≡ doomed → d.store.pending_out ≡ c.store.pending_out → IsIntact d.store (d.hand ∷ []) → IsDrawn r fillers s from seen c d
 IsDrawn-Pulls r fillers s from seen c on doomed stands d pulled hand out intact = record {

@@ -10,10 +10,10 @@ use Rattle.crack_state.specs.Inside.{Advances}
 use Rattle.crack_merge.specs.Merges.{BuriesFew}
 
 -- the store after a carry ended by this rule
-abbrev pub ended : CarryEnd → Carried → State
-ended Buries c = buried c
-ended Evicts c = returned c
-ended Appends c = appended c
+abbrev pub ended_carry : CarryEnd → Carried → State
+ended_carry Buries c = buried c
+ended_carry Evicts c = returned c
+ended_carry Appends c = appended c
 
 -- the row in hand isn't a pending deletion
 abbrev pub IsLasting : Carried → Type 0

@@ -67,11 +67,11 @@ pub data Pulls (doomed : Handle) : Carried → State → Type 0 where
 
 -- a pull begins with the filler that a search from `seen` finds, and the next search continues from there; without
 -- a filler it begins with the column's last row
-pub data Begins (fillers : Range) (s : State) (seen : ℕ) : ℕ → Carried → Type 0 where
+pub data BeginsPull (fillers : Range) (s : State) (seen : ℕ) : ℕ → Carried → Type 0 where
   -- a filler is found
-  fills : (place : ℕ) → Finds fillers (keys_at s.cells s.pending_in) seen (Some place) → Begins fillers s seen place (lifted place s)
+  fills : (place : ℕ) → Finds fillers (keys_at s.cells s.pending_in) seen (Some place) → BeginsPull fillers s seen place (lifted place s)
   -- no filler is left, and the next search looks at no pending insertion
-  takes_last : Finds fillers (keys_at s.cells s.pending_in) seen None → Begins fillers s seen (length s.pending_in) (lifted_last s)
+  takes_last : Finds fillers (keys_at s.cells s.pending_in) seen None → BeginsPull fillers s seen (length s.pending_in) (lifted_last s)
 
 -- rows with pending deletions in a range were deleted by pulls, in order of arrival: each was found by a search from
 -- the place of the one before among the pending deletions; the first number is the place of the last one, and the
@@ -80,7 +80,7 @@ pub data PullsOut (r fillers : Range) (s : State) : ℕ → ℕ → State → Ty
   -- no row was pulled, and no filler is before the place
   begins : (seen : ℕ) → seen ≤ length s.pending_in → NoneIn fillers (keys_at s.cells s.pending_in) 0 seen → PullsOut r fillers s 0 seen s
   -- one more row was pulled
-  pulls : (from place seen next : ℕ) (doomed : Handle) (t u : State) (c : Carried) → PullsOut r fillers s from seen t → Finds r (keys_at t.cells t.pending_out) from (Some place) → StandsAt t.pending_out place doomed → Begins fillers t seen next c → Pulls doomed c u → PullsOut r fillers s place next u
+  pulls : (from place seen next : ℕ) (doomed : Handle) (t u : State) (c : Carried) → PullsOut r fillers s from seen t → Finds r (keys_at t.cells t.pending_out) from (Some place) → StandsAt t.pending_out place doomed → BeginsPull fillers t seen next c → Pulls doomed c u → PullsOut r fillers s place next u
 
 -- all rows with pending deletions in a range were deleted by pulls: a search from the last one's place finds none
 pub record PullsAll (r fillers : Range) (s t : State) : Type 0 where

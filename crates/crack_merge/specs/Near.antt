@@ -45,9 +45,9 @@ pub record MergesNear (s t : State) (r : Range) : Type 0 where
   pub takes_out : TakesOutNear filled t r
 
 -- the number of pieces of the range, in a store that is cracked at the range's ends
-abbrev pub pieces_of : State → Range → ℕ
-pieces_of s r = count_by (λ bound. nat_lt r.low bound && nat_lt bound r.high) (bounds_of s.marks) + 1
+abbrev pub piece_count : State → Range → ℕ
+piece_count s r = count_by (λ bound. nat_lt r.low bound && nat_lt bound r.high) (bounds_of s.marks) + 1
 
 -- if every counter is exact, each row that was inserted moved at most as many rows as the range has pieces
 abbrev pub MovesNear : State → State → Range → Type 0
-MovesNear s t r = IsExact t.tally → t.tally.moved + s.tally.put_in * pieces_of s r ≤ s.tally.moved + t.tally.put_in * pieces_of s r
+MovesNear s t r = IsExact t.tally → t.tally.moved + s.tally.put_in * piece_count s r ≤ s.tally.moved + t.tally.put_in * piece_count s r

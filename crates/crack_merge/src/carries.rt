@@ -7,7 +7,7 @@ ghost use Rattle.crack_state.specs.State.{IsIntact};
 ghost use Rattle.crack_state.specs.Merge.{outside_of};
 ghost use Rattle.crack_state.specs.Steps.{hand_key, lifted, ceiling_of, all_appended, SameButRoom};
 ghost use Rattle.crack_merge.specs.Merges.{Carries, CarriesAll, CarriesSome, IsCeiling};
-ghost use Rattle.crack_merge.specs.Loops.{MayEnd, EvictsOver, ended};
+ghost use Rattle.crack_merge.specs.Loops.{MayEnd, EvictsOver, ended_carry};
 
 use crack_row::{Bound, KeyRange, Refusal};
 use crack_store::{CarryEnd, Carrying, Store};
@@ -138,7 +138,7 @@ fn append_at_once(store: &mut Store) -> bool
 pub(crate) fn carry(carrying: &mut Carrying, ceiling: Option<Bound>) -> CarryEnd
     ensures ends { MayEnd result carrying.new }
     ensures evicts { EvictsOver (ceiling_of ceiling) result (hand_key carrying.new) }
-    ensures carries { Carries (ceiling_of ceiling) carrying.old (ended result carrying.new) }
+    ensures carries { Carries (ceiling_of ceiling) carrying.old (ended_carry result carrying.new) }
     ensures column_room { carrying.new.store.column_room ≡ carrying.old.store.column_room }
     ensures in_room { carrying.new.store.in_room ≡ carrying.old.store.in_room }
     ensures pending_in { carrying.new.store.pending_in ≡ carrying.old.store.pending_in }
@@ -153,7 +153,7 @@ pub(crate) fn end(carrying: Carrying, rule: CarryEnd) -> Store
     requires ends { MayEnd rule carrying }
     requires column_room { 0 < carrying.store.column_room }
     requires in_room { 0 < carrying.store.in_room }
-    ensures { result ≡ ended rule carrying }
+    ensures { result ≡ ended_carry rule carrying }
 {
     match rule {
         CarryEnd::Buries => carrying.bury(),
@@ -168,7 +168,7 @@ pub(crate) fn end_and_lift(carrying: &mut Carrying, rule: CarryEnd, place: usize
     requires column_room { 1 < carrying.old.store.column_room }
     requires in_room { 0 < carrying.old.store.in_room }
     requires there { place < length carrying.old.store.pending_in }
-    ensures { carrying.new ≡ lifted place (ended rule carrying.old) }
+    ensures { carrying.new ≡ lifted place (ended_carry rule carrying.old) }
 {
     match rule {
         CarryEnd::Buries => carrying.bury_and_lift(place),

@@ -4,7 +4,7 @@ ghost use Rattle.crack_arena.specs.Arena.{StandsAt};
 ghost use Rattle.crack_arena.specs.Rows.{keys_at};
 ghost use Rattle.crack_pending.specs.Pending.{Finds, NoneIn};
 ghost use Rattle.crack_state.specs.Steps.{hand_key, piece_end, buried, IsDoomed};
-ghost use Rattle.crack_merge.specs.Merges.{Begins, Pulls, PullsAll};
+ghost use Rattle.crack_merge.specs.Merges.{BeginsPull, Pulls, PullsAll};
 
 use crack_arena::Handle;
 use crack_row::{KeyRange, Row};
@@ -97,7 +97,7 @@ fn pull_each(mut store: Store, range: KeyRange, fillers: KeyRange, seen: usize) 
 fn begin(store: Store, fillers: KeyRange, seen: usize) -> (Carrying, usize)
     requires some { 0 < length store.column }
     requires room { (length store.pending_in ≤ seen) ⊎ (0 < store.column_room) }
-    ensures { Begins fillers store seen result.1 result.0 }
+    ensures { BeginsPull fillers store seen result.1 result.0 }
 {
     match store.next_in(fillers, seen) {
         Some(place) => (store.lift(place), place),
@@ -112,7 +112,7 @@ fn begin(store: Store, fillers: KeyRange, seen: usize) -> (Carrying, usize)
 fn bury_and_begin(carrying: &mut Carrying, fillers: KeyRange, seen: usize) -> usize
     requires doomed { IsDoomed carrying.old }
     requires some { 0 < length carrying.old.store.column }
-    ensures { Begins fillers (buried carrying.old) seen result carrying.new }
+    ensures { BeginsPull fillers (buried carrying.old) seen result carrying.new }
 {
     carrying.facts();
     match carrying.seek_in(fillers, seen) {

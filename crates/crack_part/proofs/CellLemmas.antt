@@ -20,7 +20,7 @@ use Rattle.crack_state.specs.State.{State, live_at, live_rows}
 use Rattle.crack_state.specs.Steps.{SameButRoom, admitted}
 use Rattle.crack_state.specs.Points.{pending_by, handle_by, Removes, Rewrites}
 use Rattle.crack_part.specs.Parts.{Performs, ServesCleared}
-use Rattle.crack_part.specs.Inside.{placed}
+use Rattle.crack_part.specs.Inside.{inserted_row}
 use Rattle.crack_part.specs.Cells.{takes_cell, lacks_cell}
 use Rattle.crack_part.proofs.KeepLemmas.{Keeps-prepared}
 
@@ -74,7 +74,7 @@ fits-replaced most row s t (Some false) few free renews =
 fits-performed : (most next : ℕ) (change : Option Change) (s t : State) → length s.cells ≤ most → lacks_cell most s change ≡ false → Performs next change s t → length t.cells ≤ most
 fits-performed most next None s t few not same = omega (arith, ap (λ (u : State). length u.cells) same)
 fits-performed most next (Some (Place key payload)) s t few not admits =
-    fits-admitted most (placed next key payload) s t few (room most s (Some (Place key payload)) not refl) admits
+    fits-admitted most (inserted_row next key payload) s t few (room most s (Some (Place key payload)) not refl) admits
 fits-performed most next (Some (Remove serial)) s t few not removes = fits-removed most serial.0 s t (pending_by s serial.0) few removes
 fits-performed most next (Some (Rewrite serial key payload)) s t few not replaces =
     fits-replaced most (row_with serial key payload) s t (pending_by s serial.0) few (λ stands. room most s (Some (Rewrite serial key payload)) not (rw stands refl)) replaces

@@ -11,12 +11,12 @@ use Rattle.crack_row.specs.declared.command.Policy.TheVariants.{Auto, Complete, 
 use Rattle.crack_index.specs.declared.mark.Mark.{Mark}
 use Rattle.crack_index.specs.Marks.{SomeMarks, removed}
 use Rattle.crack_index.specs.Passes.{Progress, are_few, met, left_behind, next_few, stopped_at}
-use Rattle.crack_index.specs.Sums.{joined}
+use Rattle.crack_index.specs.Sums.{joined_below}
 use Rattle.crack_index.proofs.RemoveLaws.{SomeMarks-all}
 use Rattle.crack_state.specs.State.{State}
 use Rattle.crack_state.specs.Merge.{Coarsens}
 use Rattle.crack_state.proofs.CoarsenLaws.{Coarsens-same}
-use Rattle.crack_part.specs.Forgetting.{left_by, joined_by, ended, pass_of, moves_of, coarsened, noted, due_by, SettlesBy, StopsReadBy, ReadsBy}
+use Rattle.crack_part.specs.Forgetting.{left_by_pass, joined_by, ended_pass, pass_of, moves_of, coarsened, noted, due_by, SettlesBy, StopsReadBy, ReadsBy}
 use Rattle.crack_part.specs.KnownSums.{Known}
 use Rattle.crack_part.specs.Parts.{MayCoarsen, Settles, StopsRead}
 use Rattle.crack_part.specs.declared.passes.Passes.{Passes}
@@ -24,11 +24,11 @@ use Rattle.crack_part.specs.declared.passes.Passes.{Passes}
 -- how a pass comes to a mark
 data Comes (len : ℕ) (p : Progress) (m : Mark) (ms : List Mark) : Type 0 where
   -- the bound stays, and it goes on above it
-  goes_on : (p' : Progress) → p.after ≤ p'.after → m.bound.0 ≤ p'.after → next_few len p (m ∷ ms) ≡ next_few len p' ms → left_by len p (m ∷ ms) ≡ m ∷ left_by len p' ms → ended len p (m ∷ ms) ≡ ended len p' ms → ((es : List (ℕ × ℤ)) → joined_by len p (m ∷ ms) es ≡ joined_by len p' ms es) → Comes len p m ms
+  goes_on : (p' : Progress) → p.after ≤ p'.after → m.bound.0 ≤ p'.after → next_few len p (m ∷ ms) ≡ next_few len p' ms → left_by_pass len p (m ∷ ms) ≡ m ∷ left_by_pass len p' ms → ended_pass len p (m ∷ ms) ≡ ended_pass len p' ms → ((es : List (ℕ × ℤ)) → joined_by len p (m ∷ ms) es ≡ joined_by len p' ms es) → Comes len p m ms
   -- it meets no more
-  stops : next_few len p (m ∷ ms) ≡ (None, p) → left_by len p (m ∷ ms) ≡ m ∷ ms → ended len p (m ∷ ms) ≡ p → ((es : List (ℕ × ℤ)) → joined_by len p (m ∷ ms) es ≡ es) → Comes len p m ms
+  stops : next_few len p (m ∷ ms) ≡ (None, p) → left_by_pass len p (m ∷ ms) ≡ m ∷ ms → ended_pass len p (m ∷ ms) ≡ p → ((es : List (ℕ × ℤ)) → joined_by len p (m ∷ ms) es ≡ es) → Comes len p m ms
   -- it finds the bound
-  finds : p.after < m.bound.0 → next_few len p (m ∷ ms) ≡ (Some m.bound, met m p) → left_by len p (m ∷ ms) ≡ left_by len (met m p) ms → ended len p (m ∷ ms) ≡ ended len (met m p) ms → ((es : List (ℕ × ℤ)) → joined_by len p (m ∷ ms) es ≡ joined_by len (met m p) ms (joined m.bound.0 es)) → Comes len p m ms
+  finds : p.after < m.bound.0 → next_few len p (m ∷ ms) ≡ (Some m.bound, met m p) → left_by_pass len p (m ∷ ms) ≡ left_by_pass len (met m p) ms → ended_pass len p (m ∷ ms) ≡ ended_pass len (met m p) ms → ((es : List (ℕ × ℤ)) → joined_by len p (m ∷ ms) es ≡ joined_by len (met m p) ms (joined_below m.bound.0 es)) → Comes len p m ms
 
 comes : (len : ℕ) (p : Progress) (m : Mark) (ms : List Mark) → Comes len p m ms
 comes len p m ms = elim (cases_lt p.after m.bound.0) [
@@ -64,7 +64,7 @@ found-above len p q b (m ∷ ms) is = elim (comes len p m ms) [
 ]
 
 -- a pass that finds no more has come to its end
-pub found-none : (len : ℕ) (p q : Progress) (ms : List Mark) → next_few len p ms ≡ (None, q) → (left_by len p ms ≡ ms) × (ended len p ms ≡ q)
+pub found-none : (len : ℕ) (p q : Progress) (ms : List Mark) → next_few len p ms ≡ (None, q) → (left_by_pass len p ms ≡ ms) × (ended_pass len p ms ≡ q)
 found-none len p q [] is = (refl, ap (λ (x : Option InnerBound × Progress). x.1) is)
 found-none len p q (m ∷ ms) is = elim (comes len p m ms) [
   | Comes.goes_on p' further past next left over joins ↦
@@ -75,7 +75,7 @@ found-none len p q (m ∷ ms) is = elim (comes len p m ms) [
 ]
 
 -- once the bound that a pass found was removed, it goes on to the same end
-pub found-some : (len : ℕ) (p q : Progress) (b : InnerBound) (ms : List Mark) → next_few len p ms ≡ (Some b, q) → (left_by len q (removed b.0 ms) ≡ left_by len p ms) × (ended len q (removed b.0 ms) ≡ ended len p ms)
+pub found-some : (len : ℕ) (p q : Progress) (b : InnerBound) (ms : List Mark) → next_few len p ms ≡ (Some b, q) → (left_by_pass len q (removed b.0 ms) ≡ left_by_pass len p ms) × (ended_pass len q (removed b.0 ms) ≡ ended_pass len p ms)
 found-some len p q b [] is = absurd (let e : None ≡ Some b = ap (λ (x : Option InnerBound × Progress). x.0) is in cc)
 found-some len p q b (m ∷ ms) is = elim (comes len p m ms) [
   | Comes.goes_on p' further past next left over joins ↦
@@ -106,7 +106,7 @@ found-none-joins len p q (m ∷ ms) is es = elim (comes len p m ms) [
 ]
 
 -- once the pieces at the bound that a pass found were joined, it goes on to join the same ones
-found-some-joins : (len : ℕ) (p q : Progress) (b : InnerBound) (ms : List Mark) → next_few len p ms ≡ (Some b, q) → (es : List (ℕ × ℤ)) → joined_by len q (removed b.0 ms) (joined b.0 es) ≡ joined_by len p ms es
+found-some-joins : (len : ℕ) (p q : Progress) (b : InnerBound) (ms : List Mark) → next_few len p ms ≡ (Some b, q) → (es : List (ℕ × ℤ)) → joined_by len q (removed b.0 ms) (joined_below b.0 es) ≡ joined_by len p ms es
 found-some-joins len p q b [] is es = absurd (let e : None ≡ Some b = ap (λ (x : Option InnerBound × Progress). x.0) is in cc)
 found-some-joins len p q b (m ∷ ms) is es = elim (comes len p m ms) [
   | Comes.goes_on p' further past next left over joins ↦
@@ -125,12 +125,12 @@ found-some-joins len p q b (m ∷ ms) is es = elim (comes len p m ms) [
 ]
 
 -- a pass leaves some of the marks
-SomeMarks-left : (len : ℕ) (p : Progress) (ms : List Mark) → SomeMarks (left_by len p ms) ms
+SomeMarks-left : (len : ℕ) (p : Progress) (ms : List Mark) → SomeMarks (left_by_pass len p ms) ms
 SomeMarks-left len p [] = SomeMarks.nothing
 SomeMarks-left len p (m ∷ ms) = elim (comes len p m ms) [
-  | Comes.goes_on p' further past next left over joins ↦ rw left (SomeMarks.kept m (left_by len p' ms) ms (SomeMarks-left len p' ms))
+  | Comes.goes_on p' further past next left over joins ↦ rw left (SomeMarks.kept m (left_by_pass len p' ms) ms (SomeMarks-left len p' ms))
   | Comes.stops next left over joins ↦ rw left (SomeMarks-all (m ∷ ms))
-  | Comes.finds ahead next left over joins ↦ rw left (SomeMarks.left_out m (left_by len (met m p) ms) ms (SomeMarks-left len (met m p) ms))
+  | Comes.finds ahead next left over joins ↦ rw left (SomeMarks.left_out m (left_by_pass len (met m p) ms) ms (SomeMarks-left len (met m p) ms))
 ]
 
 Coarsens-coarsened : (key : Option Key) (s : State) → Coarsens s (coarsened key s)
@@ -147,8 +147,8 @@ MayCoarsen-due Ripple passes s = refl
 -- a pass over the bounds above a key that has changed one store to another by now, and comes to the same end
 pub record IsOnWay (key : Key) (s : State) (p : Progress) (t : State) : Type 0 where
   pub same : t ≡ record s { marks = t.marks }
-  pub left : left_by (length s.column) p t.marks ≡ left_by (length s.column) (pass_of key s) s.marks
-  pub over : ended (length s.column) p t.marks ≡ ended (length s.column) (pass_of key s) s.marks
+  pub left : left_by_pass (length s.column) p t.marks ≡ left_by_pass (length s.column) (pass_of key s) s.marks
+  pub over : ended_pass (length s.column) p t.marks ≡ ended_pass (length s.column) (pass_of key s) s.marks
 
 pub IsOnWay-start : (key : Key) (s : State) (p : Progress) → p ≡ pass_of key s → IsOnWay key s p s
 IsOnWay-start key s p is = rw is (record { same = refl; left = refl; over = refl })
@@ -166,7 +166,7 @@ IsOnWay-found key s p t b q u on found is =
       over = step.1 ∙ on.over;
     })
 
-pub IsOnWay-end : (key : Key) (s : State) (p : Progress) (t : State) (q : Progress) (u : State) → IsOnWay key s p t → (None, q) ≡ next_few (length t.column) p t.marks → u ≡ t → (u ≡ coarsened (Some key) s) × (stopped_at q ≡ stopped_at (ended (length s.column) (pass_of key s) s.marks))
+pub IsOnWay-end : (key : Key) (s : State) (p : Progress) (t : State) (q : Progress) (u : State) → IsOnWay key s p t → (None, q) ≡ next_few (length t.column) p t.marks → u ≡ t → (u ≡ coarsened (Some key) s) × (stopped_at q ≡ stopped_at (ended_pass (length s.column) (pass_of key s) s.marks))
 IsOnWay-end key s p t q u on found is =
     let none = found-none (length s.column) p q t.marks (found-next key s p t (None, q) on found) in (
       is ∙ on.same ∙ ap (λ (ms : List Mark). record s { marks = ms }) (sym none.0 ∙ on.left),
@@ -180,7 +180,7 @@ JoinsOnWay key s p t first now = joined_by (length s.column) p t.marks now ≡ j
 pub JoinsOnWay-start : (key : Key) (s : State) (p : Progress) (first : List (ℕ × ℤ)) → p ≡ pass_of key s → JoinsOnWay key s p s first first
 JoinsOnWay-start key s p first is = rw is refl
 
-pub JoinsOnWay-found : (key : Key) (s : State) (p : Progress) (t : State) (b : InnerBound) (q : Progress) (u : State) (first now next : List (ℕ × ℤ)) → IsOnWay key s p t → (Some b, q) ≡ next_few (length t.column) p t.marks → u ≡ record t { marks = removed b.0 t.marks } → next ≡ joined b.0 now → JoinsOnWay key s p t first now → JoinsOnWay key s q u first next
+pub JoinsOnWay-found : (key : Key) (s : State) (p : Progress) (t : State) (b : InnerBound) (q : Progress) (u : State) (first now next : List (ℕ × ℤ)) → IsOnWay key s p t → (Some b, q) ≡ next_few (length t.column) p t.marks → u ≡ record t { marks = removed b.0 t.marks } → next ≡ joined_below b.0 now → JoinsOnWay key s p t first now → JoinsOnWay key s q u first next
 JoinsOnWay-found key s p t b q u first now next on found is joins on_way =
     rw (is, joins) (found-some-joins (length s.column) p q b t.marks (found-next key s p t (Some b, q) on found) now ∙ on_way)
 
@@ -198,7 +198,7 @@ key_of-number None number is = rw (← is) refl
 key_of-number (Some k) number is = rw (← is) refl
 
 -- what is noted at its end
-pub noted-end : (key : Key) (s u : State) (passes after : Passes) (stopped : Option Key) (number : Option ℕ) → u ≡ coarsened (Some key) s → after ≡ record { counted = moves_of u; stopped = stopped } → option_map (λ (k : Key). k.0) stopped ≡ number → number ≡ stopped_at (ended (length s.column) (pass_of key s) s.marks) → after ≡ noted (Some key) s passes
+pub noted-end : (key : Key) (s u : State) (passes after : Passes) (stopped : Option Key) (number : Option ℕ) → u ≡ coarsened (Some key) s → after ≡ record { counted = moves_of u; stopped = stopped } → option_map (λ (k : Key). k.0) stopped ≡ number → number ≡ stopped_at (ended_pass (length s.column) (pass_of key s) s.marks) → after ≡ noted (Some key) s passes
 noted-end key s u passes after stopped number store is keys numbers = is ∙ rw (store, key_of-number stopped number keys, numbers) refl
 
 -- the keys stay

@@ -20,7 +20,7 @@ use Rattle.crack_row.specs.declared.command.Command.TheVariants.{Insert, Delete,
 use Rattle.crack_plain.specs.Plain.{PlainState, row_in, after}
 use Rattle.crack_plain.proofs.Laws.{others-same, replaced-same}
 use Rattle.crack_index.specs.Sums.{AreRight, Changes}
-use Rattle.crack_part.specs.KnownSums.{Known, Knows, KnowsThen, adds, added, sum_before, with_row, IsFresh, left}
+use Rattle.crack_part.specs.KnownSums.{Known, KnowsSums, KnowsThen, adds, added_amount, sum_before, with_row, IsFresh, left_known}
 use Rattle.crack_part.specs.declared.known.TheConstants.{MOST_PLACED}
 use Rattle.crack_part.proofs.SumLaws.{sum-placed, total-taken, total-put, found-serial, apart-none}
 
@@ -39,7 +39,7 @@ Changes-added m row = λ low high. by_test m low high (is_in (record { low = low
 
 -- the sums without a row
 abbrev pub without : Row → (ℕ → ℕ → ℤ) → ℕ → ℕ → ℤ
-without row m low high = m low high +ℤ neg_ℤ (added low high (Some row))
+without row m low high = m low high +ℤ neg_ℤ (added_amount low high (Some row))
 
 pub Changes-without : (m : ℕ → ℕ → ℤ) (row : Row) → Changes row.key.0 (neg_ℤ (amount row.payload)) m (without row m)
 Changes-without m row = λ low high. by_test m low high (is_in (record { low = low; high = high }) row.key.0)
@@ -49,25 +49,25 @@ Changes-without m row = λ low high. by_test m low high (is_in (record { low = l
     by_test m low high false = omega (arith, ints)
 
 -- what a row adds, by when it was placed
-adds-early : (since low high : ℕ) (row : Row) → row.serial.0 < since → adds since (record { low = low; high = high }) row ≡ added low high (Some row)
+adds-early : (since low high : ℕ) (row : Row) → row.serial.0 < since → adds since (record { low = low; high = high }) row ≡ added_amount low high (Some row)
 adds-early since low high row early = grind (arith, nat_tests, early)
 
 adds-late : (since low high : ℕ) (row : Row) → since ≤ row.serial.0 → adds since (record { low = low; high = high }) row ≡ pos 0
 adds-late since low high row late = grind (arith, nat_tests, late)
 
 -- the remaining sums are right, and are of the same rows
-pub Knows-left : (next : ℕ) (known : Known) (plain : PlainState) → Knows known plain → Knows (left next known) plain
+pub Knows-left : (next : ℕ) (known : Known) (plain : PlainState) → KnowsSums known plain → KnowsSums (left_known next known) plain
 Knows-left next known plain knows = by_test (nat_lt MOST_PLACED (next - known.since))
   where
-    by_test : (b : Bool) → Knows (cond b (record known { pieces = [] }) known) plain
+    by_test : (b : Bool) → KnowsSums (cond b (record known { pieces = [] }) known) plain
     by_test true = record { past = knows.past; right = tt }
     by_test false = knows
 
-pub left-fresh : (next : ℕ) (known : Known) → IsFresh next known → left next known ≡ known
+pub left-fresh : (next : ℕ) (known : Known) → IsFresh next known → left_known next known ≡ known
 left-fresh next known fresh = rw (le-ltb MOST_PLACED (next - known.since) (omega (arith, fresh))) refl
 
 -- a row that is placed is later than the serial
-pub Knows-placed : (known : Known) (plain : PlainState) (key : Key) (payload : Payload) → Knows known plain → Knows known (after plain (Insert key payload))
+pub Knows-placed : (known : Known) (plain : PlainState) (key : Key) (payload : Payload) → KnowsSums known plain → KnowsSums known (after plain (Insert key payload))
 Knows-placed known plain key payload knows =
     let row : Row = record { serial = record { 0 = plain.next }; key = key; payload = payload } in
     record {
@@ -76,22 +76,22 @@ Knows-placed known plain key payload knows =
     }
 
 -- no row has the serial of a change
-pub Knows-unremoved : (known : Known) (plain : PlainState) (serial : Serial) → row_in plain.rows serial ≡ None → Knows known plain → Knows known (after plain (Delete serial))
+pub Knows-unremoved : (known : Known) (plain : PlainState) (serial : Serial) → row_in plain.rows serial ≡ None → KnowsSums known plain → KnowsSums known (after plain (Delete serial))
 Knows-unremoved known plain serial none knows =
     let others : filter (is_other serial.0) plain.rows ≡ plain.rows = others-same serial.0 plain.rows (apart-none serial.0 plain.rows none) in
     record { past = knows.past; right = rw others knows.right }
 
-pub Knows-unchanged : (known : Known) (plain : PlainState) (row : Row) → row_in plain.rows row.serial ≡ None → Knows known plain → Knows known (after plain (Update row.serial row.key row.payload))
+pub Knows-unchanged : (known : Known) (plain : PlainState) (row : Row) → row_in plain.rows row.serial ≡ None → KnowsSums known plain → KnowsSums known (after plain (Update row.serial row.key row.payload))
 Knows-unchanged known plain row none knows =
     let same : map (replaced row) plain.rows ≡ plain.rows = replaced-same row plain.rows (apart-none row.serial.0 plain.rows none) in
     record { past = knows.past; right = rw same knows.right }
 
 -- a command that changes no row
-pub Knows-read : (known : Known) (plain : PlainState) (command : Command) → change_of command ≡ None → Knows known (after plain command) → Knows known plain
+pub Knows-read : (known : Known) (plain : PlainState) (command : Command) → change_of command ≡ None → KnowsSums known (after plain command) → KnowsSums known plain
 Knows-read known plain command none knows = rw none at knows
 
 -- the known sums after an answer, by those after each outcome
-pub KnowsThen-of : (old new : Known) (plain : PlainState) (command : Command) (result : Result Reply Refusal) → OnOk result (Knows new (after plain command)) → OnErr result (new ≡ old) → Knows old plain → KnowsThen new plain command result
+pub KnowsThen-of : (old new : Known) (plain : PlainState) (command : Command) (result : Result Reply Refusal) → OnOk result (KnowsSums new (after plain command)) → OnErr result (new ≡ old) → KnowsSums old plain → KnowsThen new plain command result
 KnowsThen-of old new plain command (Ok reply) ok err knows = ok
 KnowsThen-of old new plain command (Err refusal) ok err knows = rw err knows
 

@@ -10,7 +10,7 @@ use Rattle.crack_plain.proofs.Laws.{IsNumbered-after}
 use Rattle.crack_state.specs.State.{State, IsIntact, live_rows}
 use Rattle.crack_state.proofs.PointLaws.{Spends}
 use Rattle.crack_part.specs.Parts.{Part, IsSound, IsFaithful, state_of, table_of, CracksAndMerges, StopsAt}
-use Rattle.crack_part.specs.KnownSums.{Known, Knows, KnowsPart}
+use Rattle.crack_part.specs.KnownSums.{Known, KnowsSums, KnowsPart}
 use Rattle.crack_part.specs.Upkeep.{is_due, is_full}
 use Rattle.crack_part.proofs.ClearLaws.{IsSound-cleared}
 use Rattle.crack_part.proofs.KeepLemmas.{Keeps, Keeps-merged, Keeps-stopped}
@@ -19,13 +19,13 @@ use Rattle.crack_part.proofs.SoundLemmas.{SpendsNone, IsSound-kept, IsSound-serv
 use Rattle.crack_part.proofs.UpkeepLaws.{counts-one, since-le-history}
 
 -- the known sums are still those of the live rows, if these are as they were
-Knows-kept : (known : Known) (p : Part) (t : State) → Keeps p.store t → Knows known (state_of p) → Knows known (state_of (record p { store = t }))
-Knows-kept known p t keeps knows = subst (λ (rows : List Row). Knows known (record { rows = by_serial rows; next = p.next })) (sym keeps.live) knows
+Knows-kept : (known : Known) (p : Part) (t : State) → Keeps p.store t → KnowsSums known (state_of p) → KnowsSums known (state_of (record p { store = t }))
+Knows-kept known p t keeps knows = subst (λ (rows : List Row). KnowsSums known (record { rows = by_serial rows; next = p.next })) (sym keeps.live) knows
 
-pub KnowsPart-kept : (known : Known) (p : Part) (t : State) → IsSound p → Keeps p.store t → IsIntact t [] → Knows known (state_of p) → KnowsPart known (record p { store = t })
+pub KnowsPart-kept : (known : Known) (p : Part) (t : State) → IsSound p → Keeps p.store t → IsIntact t [] → KnowsSums known (state_of p) → KnowsPart known (record p { store = t })
 KnowsPart-kept known p t sound keeps intact knows = record { sound = IsSound-kept p t sound keeps intact; knows = Knows-kept known p t keeps knows }
 
-pub KnowsPart-cleared : (known : Known) (p : Part) (t : State) (r : Result (Unit {0}) Refusal) → IsSound p → OnOk r (CracksAndMerges Complete p.store t p.keys) → OnErr r (StopsAt Complete p.store t p.keys) → Knows known (state_of p) → KnowsPart known (record p { store = t })
+pub KnowsPart-cleared : (known : Known) (p : Part) (t : State) (r : Result (Unit {0}) Refusal) → IsSound p → OnOk r (CracksAndMerges Complete p.store t p.keys) → OnErr r (StopsAt Complete p.store t p.keys) → KnowsSums known (state_of p) → KnowsPart known (record p { store = t })
 KnowsPart-cleared known p t (Ok x) sound done stopped knows =
     record { sound = IsSound-cleared p t (Ok x) sound done tt; knows = Knows-kept known p t (Keeps-merged Complete p.store t p.keys done) knows }
 KnowsPart-cleared known p t (Err e) sound done stopped knows =
@@ -35,8 +35,8 @@ KnowsPart-cleared known p t (Err e) sound done stopped knows =
 pub state-served : (p : Part) (command : Command) (next : ℕ) (t : State) → IsSound p → IsFaithful t next (after (state_of p) command) → ◌≡◌ {A = PlainState} (record { rows = by_serial (live_rows t); next = next }) (after (state_of p) command)
 state-served p command next t sound faithful = state-faithful t next (after (state_of p) command) faithful (IsNumbered-after (state_of p) command sound.numbered)
 
-pub KnowsPart-served : (known : Known) (p : Part) (command : Command) (next folded since : ℕ) (t : State) → IsSound p → folded ≡ (if is_due p.limits p.since then p.folded + p.since else p.folded) → since ≡ (if is_due p.limits p.since then 0 else p.since) + 1 → is_full p.limits p.since ≡ false → p.folded + p.since < p.limits.life → length t.cells ≤ p.limits.cells → IsIntact t [] → IsFaithful t next (after (state_of p) command) → Spends 1 1 p.store t × SpendsNone p.store t → Knows known (after (state_of p) command) → KnowsPart known (record p { next = next; folded = folded; since = since; store = t })
+pub KnowsPart-served : (known : Known) (p : Part) (command : Command) (next folded since : ℕ) (t : State) → IsSound p → folded ≡ (if is_due p.limits p.since then p.folded + p.since else p.folded) → since ≡ (if is_due p.limits p.since then 0 else p.since) + 1 → is_full p.limits p.since ≡ false → p.folded + p.since < p.limits.life → length t.cells ≤ p.limits.cells → IsIntact t [] → IsFaithful t next (after (state_of p) command) → Spends 1 1 p.store t × SpendsNone p.store t → KnowsSums known (after (state_of p) command) → KnowsPart known (record p { next = next; folded = folded; since = since; store = t })
 KnowsPart-served known p command next folded since t sound counted more unshut life fits intact faithful spends knows = record {
   sound = IsSound-served p command next folded since t sound (counts-one p.limits (table_of p) folded since counted more) (since-le-history p.limits p.since since sound.limited.history.0 unshut more) life fits intact faithful spends;
-  knows = subst (Knows known) (sym (state-served p command next t sound faithful)) knows;
+  knows = subst (KnowsSums known) (sym (state-served p command next t sound faithful)) knows;
 }

@@ -10,7 +10,8 @@ use Rattle.crack_row.specs.Rows.{is_other, replaced}
 use Rattle.crack_row.specs.declared.Row.{Row}
 use Rattle.crack_plain.proofs.Laws.{others-same, replaced-same}
 use Rattle.crack_arena.specs.Arena.{Handle, times, slots}
-use Rattle.crack_state.specs.State.{State, IsIntact, live_rows, handle_of}
+use Rattle.crack_serials.specs.Serials.{handle_of}
+use Rattle.crack_state.specs.State.{State, IsIntact, live_rows}
 use Rattle.crack_state.specs.Points.{row_by, pending_by, Removes, Rewrites}
 use Rattle.crack_state.proofs.LookUpLaws.{row_by-is, row_by-none, gone-cancels, gone-dooms, live-without, live-replaced}
 

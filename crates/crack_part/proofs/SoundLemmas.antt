@@ -30,7 +30,7 @@ use Rattle.crack_state.proofs.AdmitLaws.{live_rows-admitted, freed-admitted, cel
 use Rattle.crack_state.proofs.PointLaws.{Spends, Spends-cancels, Spends-dooms, Spends-rewrites, found_by, stands1}
 use Rattle.crack_store.specs.Inside.{no_cells}
 use Rattle.crack_part.specs.Parts.{Part, IsLimit, IsSound, folded_part, IsFaithful, ServesCleared, Prepares, Performs, state_of}
-use Rattle.crack_part.specs.Inside.{placed, MayPerform}
+use Rattle.crack_part.specs.Inside.{inserted_row, MayPerform}
 use Rattle.crack_part.proofs.CellLemmas.{rows-le-cells}
 use Rattle.crack_part.proofs.KeepLemmas.{Keeps, Keeps-room, Keeps-prepared, IsIntact-prepared}
 use Rattle.crack_part.proofs.OrderLemmas.{state-faithful}
@@ -62,7 +62,7 @@ few_freed : (p : Part) → IsSound p → p.folded + p.since < p.limits.life → 
 few_freed p sound lives = omega (arith, sound.few_freed, sound.limited.life.1, lives)
 
 -- a row that is placed may be admitted
-IsAdmissible-placed : (p : Part) (key : Key) (payload : Payload) → IsSound p → IsIn p.keys key.0 → IsAdmissible (placed p.next key payload) p.store
+IsAdmissible-placed : (p : Part) (key : Key) (payload : Payload) → IsSound p → IsIn p.keys key.0 → IsAdmissible (inserted_row p.next key payload) p.store
 IsAdmissible-placed p key payload sound within = record {
   fresh = handle_of-fresh p.store [] p.next sound.intact (next-above p sound);
   within = rw sound.ends within;
@@ -117,11 +117,11 @@ pub IsFaithful-kept : (s t : State) (next : ℕ) (plain : PlainState) → Keeps 
 IsFaithful-kept s t next plain keeps faithful = record { rows = rw keeps.live faithful.rows; serial = faithful.serial }
 
 -- a row that is placed is one more of the plain rows
-pub IsFaithful-placed : (s t : State) (next : ℕ) (key : Key) (payload : Payload) (plain : PlainState) → IsIntact s [] → SameButRoom (admitted (placed next key payload) s) t → IsFaithful s next plain → IsFaithful t (next + 1) (changed plain (Some (Place key payload)))
+pub IsFaithful-placed : (s t : State) (next : ℕ) (key : Key) (payload : Payload) (plain : PlainState) → IsIntact s [] → SameButRoom (admitted (inserted_row next key payload) s) t → IsFaithful s next plain → IsFaithful t (next + 1) (changed plain (Some (Place key payload)))
 IsFaithful-placed s t next key payload plain intact admits faithful =
-    let row = placed next key payload in
+    let row = inserted_row next key payload in
     let keeps = Keeps-room (admitted row s) t admits in
-    let renamed = ap (λ (n : ℕ). placed n key payload) faithful.serial in
+    let renamed = ap (λ (n : ℕ). inserted_row n key payload) faithful.serial in
     let rows = IsPermutation-placed (live_rows s) (live_rows (admitted row s)) plain.rows row faithful.rows (live_rows-admitted row s intact) in
     record { rows = rw (keeps.live, ← renamed) rows; serial = omega (arith, faithful.serial) }
 
@@ -150,7 +150,7 @@ Spends-replaced s t row (Some pending) is intact within renewable rewrites =
 Spends-performed : (next : ℕ) (change : Option Change) (s t : State) → IsIntact s [] → MayPerform next change s → Performs next change s t → Spends 1 1 s t
 Spends-performed next None s t intact may same = Spends-same s t same
 Spends-performed next (Some (Place key payload)) s t intact may admits =
-    let row = placed next key payload in
+    let row = inserted_row next key payload in
     let keeps = Keeps-room (admitted row s) t admits in
     record { keys = keeps.ends; cells = omega (arith, keeps.cells, cells-admitted row s); freed = omega (arith, keeps.freed, freed-admitted row s intact) }
 Spends-performed next (Some (Remove serial)) s t intact may removes = Spends-removed s t serial.0 (pending_by s serial.0) refl intact removes
@@ -181,7 +181,7 @@ SpendsNone-replaced s t row (Some pending) is intact rewrites empty = absurd (ha
 SpendsNone-performed : (next : ℕ) (change : Option Change) (s t : State) → IsIntact s [] → Performs next change s t → SpendsNone s t
 SpendsNone-performed next None s t intact same empty = SpendsNone-same s t same empty
 SpendsNone-performed next (Some (Place key payload)) s t intact admits empty =
-    let row = placed next key payload in
+    let row = inserted_row next key payload in
     let keeps = Keeps-room (admitted row s) t admits in
     omega (arith, keeps.freed, freed-admitted row s intact)
 SpendsNone-performed next (Some (Remove serial)) s t intact removes empty = SpendsNone-removed s t serial.0 (pending_by s serial.0) refl intact removes empty

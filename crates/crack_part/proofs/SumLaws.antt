@@ -14,7 +14,7 @@ use Rattle.crack_row.specs.declared.Row.{Row}
 use Rattle.crack_row.proofs.Totals.{total_by-cons, total_by-append, total_by-agree, total_by-filter}
 use Rattle.crack_plain.specs.Plain.{rows_in}
 use Rattle.crack_plain.proofs.Laws.{others-same, replaced-same}
-use Rattle.crack_part.specs.KnownSums.{adds, sum_before, added}
+use Rattle.crack_part.specs.KnownSums.{adds, sum_before, added_amount}
 
 -- totals of a sum of numbers
 total-sum : (f g h : Row → ℤ) → ((row : Row) → f row ≡ g row +ℤ h row) → (rows : List Row) → total_by f rows ≡ total_by g rows +ℤ total_by h rows
@@ -118,13 +118,13 @@ others-apart serial (x ∷ xs) = by_test (x.serial.0 == serial) (Decides-eqb x.s
 
 -- what a row of this serial adds to the sum of a range
 abbrev adds-here : ℕ → ℕ → ℕ → Row → ℤ
-adds-here serial low high row = cond (row.serial.0 == serial) (added low high (Some row)) (pos 0)
+adds-here serial low high row = cond (row.serial.0 == serial) (added_amount low high (Some row)) (pos 0)
 
 adds-next : (since low high : ℕ) (row : Row) → adds (since + 1) (record { low = low; high = high }) row ≡ adds since (record { low = low; high = high }) row +ℤ adds-here since low high row
 adds-next since low high row = grind (arith, nat_tests, ints)
 
 -- up to the next serial: the row of this serial, if there is one, is added to the sum
-pub sum-next : (since : ℕ) (rows : List Row) (low high : ℕ) (o : Option Row) → AllPairs (λ (earlier later : Row). earlier.serial.0 < later.serial.0) rows → find (has_serial since) rows ≡ o → sum_before (since + 1) rows low high ≡ sum_before since rows low high +ℤ added low high o
+pub sum-next : (since : ℕ) (rows : List Row) (low high : ℕ) (o : Option Row) → AllPairs (λ (earlier later : Row). earlier.serial.0 < later.serial.0) rows → find (has_serial since) rows ≡ o → sum_before (since + 1) rows low high ≡ sum_before since rows low high +ℤ added_amount low high o
 sum-next since rows low high None rising none =
     let both = total-sum (adds (since + 1) (record { low = low; high = high })) (adds since (record { low = low; high = high })) (adds-here since low high) (adds-next since low high) rows in
     let apart = apart-none since rows none in
@@ -146,5 +146,5 @@ sum-next since rows low high (Some row) rising found =
     not-here : (x : Row) → x.serial.0 ≢ since → adds-here since low high x ≡ pos 0
     not-here x apart = grind (arith, nat_tests, apart)
 
-    is-here : row.serial.0 ≡ since → adds-here since low high row ≡ added low high (Some row)
+    is-here : row.serial.0 ≡ since → adds-here since low high row ≡ added_amount low high (Some row)
     is-here same = grind (arith, nat_tests, same)

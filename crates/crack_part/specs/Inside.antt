@@ -24,8 +24,8 @@ use Rattle.crack_part.specs.Refusals.{stopped_by, first_cause, refusal_of}
 use Rattle.crack_part.specs.Upkeep.{answered}
 
 -- the row that a change inserts
-abbrev pub placed : ℕ → Key → Payload → Row
-placed serial key payload = row_with (record { 0 = serial }) key payload
+abbrev pub inserted_row : ℕ → Key → Payload → Row
+inserted_row serial key payload = row_with (record { 0 = serial }) key payload
 
 -- all pending rows are merged if that is due, by a read of all keys under complete
 abbrev pub Readies : Bool → State → State → Type 0
@@ -44,7 +44,7 @@ AreCommon (Some range) keys common = IsCommon range keys common
 -- whether a change may be made, where an inserted row gets this serial
 abbrev pub MayPerform : ℕ → Option Change → State → Type 0
 MayPerform next None s = Unit {0}
-MayPerform next (Some (Place key payload)) s = IsAdmissible (placed next key payload) s
+MayPerform next (Some (Place key payload)) s = IsAdmissible (inserted_row next key payload) s
 MayPerform next (Some (Remove serial)) s = MayFree s
 MayPerform next (Some (Rewrite serial key payload)) s = IsIn s.keys key.0 × IsRenewable s
 

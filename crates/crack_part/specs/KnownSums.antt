@@ -16,13 +16,13 @@ use Rattle.crack_part.specs.declared.known.TheConstants.{MOST_PLACED}
 use Rattle.crack_part.specs.Parts.{Part, IsSound, state_of}
 
 -- what a row, if there is one, adds to the sum of a range: its payload, if its key is in the range
-abbrev pub added : ℕ → ℕ → Option Row → ℤ
-added low high None = pos 0
-added low high (Some row) = cond (in_range (record { low = low; high = high }) row) (amount row.payload) (pos 0)
+abbrev pub added_amount : ℕ → ℕ → Option Row → ℤ
+added_amount low high None = pos 0
+added_amount low high (Some row) = cond (in_range (record { low = low; high = high }) row) (amount row.payload) (pos 0)
 
 -- what a row adds to the sum of a range: nothing, unless its serial is below `since`
 abbrev pub adds : ℕ → Range → Row → ℤ
-adds since range row = cond (nat_lt row.serial.0 since) (added range.low range.high (Some row)) (pos 0)
+adds since range row = cond (nat_lt row.serial.0 since) (added_amount range.low range.high (Some row)) (pos 0)
 
 -- the sum of the payloads of the rows with a serial below `since` and a key between two bounds
 abbrev pub sum_before : ℕ → List Row → ℕ → ℕ → ℤ
@@ -30,7 +30,7 @@ sum_before since rows low high = total_by (adds since (record { low = low; high 
 
 -- the sums of ranges after a row, if there is one, is added
 abbrev pub with_row : Option Row → (ℕ → ℕ → ℤ) → ℕ → ℕ → ℤ
-with_row row m low high = m low high +ℤ added low high row
+with_row row m low high = m low high +ℤ added_amount low high row
 
 -- the pieces with known sums, and the serial before which the summed rows were inserted
 pub record Known : Type 0 where
@@ -38,7 +38,7 @@ pub record Known : Type 0 where
   pub since : ℕ
 
 -- each known sum is that of the plain rows inserted before the serial
-pub record Knows (known : Known) (plain : PlainState) : Type 0 where
+pub record KnowsSums (known : Known) (plain : PlainState) : Type 0 where
   pub past : known.since ≤ plain.next
   pub right : AreRight (sum_before known.since plain.rows) known.pieces
 
@@ -47,8 +47,8 @@ abbrev pub IsFresh : ℕ → Known → Type 0
 IsFresh next known = next ≤ known.since + MOST_PLACED
 
 -- the known sums that remain if the next row gets this serial: none if many rows were inserted since
-abbrev pub left : ℕ → Known → Known
-left next known = cond (nat_lt MOST_PLACED (next - known.since)) (record known { pieces = [] }) known
+abbrev pub left_known : ℕ → Known → Known
+left_known next known = cond (nat_lt MOST_PLACED (next - known.since)) (record known { pieces = [] }) known
 
 -- a store that is settled for one range of its keys is settled for another one too
 abbrev pub SettlesToo : State → Range → Range → Type 0
@@ -67,10 +67,10 @@ pub record HasMost (s : State) (part whole : Range) : Type 0 where
 
 -- after a command the known sums are those of the plain rows after it
 abbrev pub KnowsThen : Known → PlainState → Command → Result Reply Refusal → Type 0
-KnowsThen known plain command (Ok reply) = Knows known (after plain command)
-KnowsThen known plain command (Err refusal) = Knows known plain
+KnowsThen known plain command (Ok reply) = KnowsSums known (after plain command)
+KnowsThen known plain command (Err refusal) = KnowsSums known plain
 
 -- the invariant of a partition, including that the known sums are those of its plain rows
 pub record KnowsPart (known : Known) (part : Part) : Type 0 where
   pub sound : IsSound part
-  pub knows : Knows known (state_of part)
+  pub knows : KnowsSums known (state_of part)

@@ -9,9 +9,9 @@ ghost use Rattle.crack_plain.specs.Inside.{gone, rewritten};
 ghost use Rattle.crack_state.specs.State.{IsIntact, live_rows};
 ghost use Rattle.crack_state.specs.Steps.{SameButRoom, admitted, IsAdmissible};
 ghost use Rattle.crack_state.specs.Points.{pending_by, MayFree, IsRenewable, Removes, Rewrites};
-ghost use Rattle.crack_part.specs.KnownSums.{Knows};
+ghost use Rattle.crack_part.specs.KnownSums.{KnowsSums};
 ghost use Rattle.crack_part.specs.Parts.{IsFaithful};
-ghost use Rattle.crack_part.specs.Inside.{placed};
+ghost use Rattle.crack_part.specs.Inside.{inserted_row};
 
 use crate::known::KnownSums;
 use crate::replies::{gone, rewritten};
@@ -27,10 +27,10 @@ pub(crate) fn place(
     payload: Payload,
 ) -> Result<Reply, Refusal>
     requires intact { IsIntact store.old [] }
-    requires admissible { IsAdmissible (placed next.old key payload) store.old }
+    requires admissible { IsAdmissible (inserted_row next.old key payload) store.old }
     requires small { next.old + 1 < 2 ^ 64 }
     ensures reply { IfOk result (λ reply. reply ≡ Reply.Placed (record { 0 = next.old })) }
-    ensures placed { OnOk result (SameButRoom (admitted (placed next.old key payload) store.old) store.new) }
+    ensures placed { OnOk result (SameButRoom (admitted (inserted_row next.old key payload) store.old) store.new) }
     ensures faithful { OnOk result ((plain : PlainState) → IsFaithful store.old next.old plain →
         IsFaithful store.new next.new (after plain (Command.Insert key payload))) }
     ensures intact { OnOk result (IsIntact store.new []) }
@@ -65,7 +65,7 @@ pub(crate) fn remove(
     ensures live { OnOk result ((plain : List Row) → IsPermutation (live_rows store.old) plain →
         IsPermutation (live_rows store.new) (filter (is_other serial.0) plain)) }
     ensures knows { OnOk result ((plain : PlainState) → IsNumbered plain → IsPermutation (live_rows store.old)
-        plain.rows → Knows known.old plain → Knows known.new (after plain (Command.Delete serial))) }
+        plain.rows → KnowsSums known.old plain → KnowsSums known.new (after plain (Command.Delete serial))) }
     ensures intact { OnOk result (IsIntact store.new []) }
     ensures same { OnErr result (SameButRoom store.old store.new × (known.new ≡ known.old)) }
     ensures err { IfErr result (λ e. e ≡ Refusal.OutOfMemory) }
@@ -95,7 +95,7 @@ pub(crate) fn rewrite(
     ensures live { OnOk result ((plain : List Row) → IsPermutation (live_rows store.old) plain →
         IsPermutation (live_rows store.new) (map (replaced row) plain)) }
     ensures knows { OnOk result ((plain : PlainState) → IsNumbered plain → IsPermutation (live_rows store.old)
-        plain.rows → Knows known.old plain → Knows known.new (after plain
+        plain.rows → KnowsSums known.old plain → KnowsSums known.new (after plain
         (Command.Update row.serial row.key row.payload))) }
     ensures intact { OnOk result (IsIntact store.new []) }
     ensures same { OnErr result (SameButRoom store.old store.new × (known.new ≡ known.old)) }

@@ -2,7 +2,7 @@
 ghost use Rattle.std.specs.Prelude.{◌≡◌, Some};
 ghost use Rattle.crack_plain.specs.Plain.{PlainState};
 ghost use Rattle.crack_part.specs.Forgetting.{coarsened, due_by, known_after, noted};
-ghost use Rattle.crack_part.specs.KnownSums.{Knows};
+ghost use Rattle.crack_part.specs.KnownSums.{KnowsSums};
 
 use crate::known::KnownSums;
 use crate::passes::Passes;
@@ -22,7 +22,7 @@ pub(crate) fn coarsen(store: &mut Store, passes: &mut Passes, known: &mut KnownS
     ensures coarse { store.new ≡ coarsened (due_by policy passes.old store.old) store.old }
     ensures noted { passes.new ≡ noted (due_by policy passes.old store.old) store.old passes.old }
     ensures joins { known.new ≡ known_after (due_by policy passes.old store.old) store.old known.old }
-    ensures knows { (plain : PlainState) → Knows known.old plain → Knows known.new plain }
+    ensures knows { (plain : PlainState) → KnowsSums known.old plain → KnowsSums known.new plain }
 {
     match policy {
         Policy::Auto => {
@@ -40,7 +40,7 @@ fn forget_after(store: &mut Store, passes: &mut Passes, known: &mut KnownSums, k
     ensures coarse { store.new ≡ coarsened (Some key) store.old }
     ensures noted { passes.new ≡ noted (Some key) store.old passes.old }
     ensures joins { known.new ≡ known_after (Some key) store.old known.old }
-    ensures knows { (plain : PlainState) → Knows known.old plain → Knows known.new plain }
+    ensures knows { (plain : PlainState) → KnowsSums known.old plain → KnowsSums known.new plain }
 {
     let mut pass = store.pass_after(key, FEW_ROWS, MOST_BOUNDS);
     'bounds: while let Some(bound) = store.forget_few(&mut pass) {

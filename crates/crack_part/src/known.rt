@@ -3,11 +3,11 @@ ghost use Rattle.std.specs.Prelude.{◌≡◌, ℕ, ℤ, ◌<◌, ◌≤◌, ◌
 ghost use Rattle.std.specs.Map.{keys_of};
 ghost use Rattle.crack_row.specs.Rows.{sum_of};
 ghost use Rattle.crack_plain.specs.Plain.{PlainState, IsNumbered, row_in, rows_in, after};
-ghost use Rattle.crack_index.specs.Sums.{AreRight, AreKnown, IsEnd, distance_in, joined};
+ghost use Rattle.crack_index.specs.Sums.{AreRight, SumsAreKnown, IsEnd, distance_in, joined_below};
 ghost use Rattle.crack_state.specs.Merge.{IsCracked, IsSettled};
 ghost use Rattle.crack_part.specs.Parts.{IsFaithful};
-ghost use Rattle.crack_part.specs.KnownSums.{Knows, IsFresh, SettlesToo, SaysSettled, HasMost};
-ghost use Rattle.crack_part.specs.KnownSums.{left, sum_before, with_row};
+ghost use Rattle.crack_part.specs.KnownSums.{KnowsSums, IsFresh, SettlesToo, SaysSettled, HasMost};
+ghost use Rattle.crack_part.specs.KnownSums.{left_known, sum_before, with_row};
 
 use crack_index::{PieceSums, Source};
 use crack_row::{Command, InnerBound, KeyRange, Row, Serial};
@@ -52,7 +52,7 @@ impl KnownSums {
     /// Records that the row with this serial was deleted, if there was one. O(log pieces), amortised.
     pub(crate) fn remove(&mut self, serial: Serial, row: Option<Row>, next: u64)
         ensures knows { (plain : PlainState) → IsNumbered plain → row_in plain.rows serial ≡ row →
-            Knows self.old plain → Knows self.new (after plain (Command.Delete serial)) }
+            KnowsSums self.old plain → KnowsSums self.new (after plain (Command.Delete serial)) }
         ensures stay { IsFresh next self.old → keys_of self.new.pieces ≡ keys_of self.old.pieces }
     {
         let Some(row) = row else {
@@ -66,8 +66,8 @@ impl KnownSums {
 
     /// Records that `row` replaced `before`, the row with its serial, if there was one. O(log pieces), amortised.
     pub(crate) fn replace(&mut self, before: Option<Row>, row: Row, next: u64)
-        ensures knows { (plain : PlainState) → IsNumbered plain → row_in plain.rows row.serial ≡ before → Knows self.old
-            plain → Knows self.new (after plain (Command.Update row.serial row.key row.payload)) }
+        ensures knows { (plain : PlainState) → IsNumbered plain → row_in plain.rows row.serial ≡ before → KnowsSums self.old
+            plain → KnowsSums self.new (after plain (Command.Update row.serial row.key row.payload)) }
         ensures stay { IsFresh next self.old → keys_of self.new.pieces ≡ keys_of self.old.pieces }
     {
         let Some(before) = before else {
@@ -82,8 +82,8 @@ impl KnownSums {
 
     /// Joins the two pieces between which a bound was forgotten: their sum is known if both sums are. O(log pieces).
     pub(crate) fn join(&mut self, bound: InnerBound)
-        ensures knows { (plain : PlainState) → Knows self.old plain → Knows self.new plain }
-        ensures joins { self.new ≡ record self.old { pieces = joined bound.0 self.old.pieces } }
+        ensures knows { (plain : PlainState) → KnowsSums self.old plain → KnowsSums self.new plain }
+        ensures joins { self.new ≡ record self.old { pieces = joined_below bound.0 self.old.pieces } }
     {
         self.pieces.join(bound.key());
     }
@@ -95,12 +95,12 @@ impl KnownSums {
         requires filled { range.low < range.high }
         requires settled { IsSettled store.now range }
         ensures right { store.now.keys.low ≤ range.low → range.high ≤ store.now.keys.high → (plain : PlainState) →
-            IsNumbered plain → IsFaithful store.now next plain → Knows self.old plain →
-            IfSome result (λ sum. sum ≡ sum_of (rows_in range plain.rows)) × Knows self.new plain }
-        ensures known { OnSome result (AreKnown range self.new.pieces) }
+            IsNumbered plain → IsFaithful store.now next plain → KnowsSums self.old plain →
+            IfSome result (λ sum. sum ≡ sum_of (rows_in range plain.rows)) × KnowsSums self.new plain }
+        ensures known { OnSome result (SumsAreKnown range self.new.pieces) }
         ensures ends { OnSome result (IsEnd range.low self.new.pieces × IsEnd range.high self.new.pieces) }
         ensures again { next ≡ self.old.since → IsEnd range.low self.old.pieces → IsEnd range.high self.old.pieces →
-            AreKnown range self.old.pieces → distance_in range self.old.pieces < 2 ^ 127 → IsSome result }
+            SumsAreKnown range self.old.pieces → distance_in range self.old.pieces < 2 ^ 127 → IsSome result }
     {
         self.catch_up(store, next);
         self.pieces.sum(range, &Settled { store, range })
@@ -109,7 +109,7 @@ impl KnownSums {
     /// Adds the rows inserted since the sums were last used, or forgets the sums if there are many such rows.
     fn catch_up(&mut self, store: &Store, next: u64)
         ensures knows { (plain : PlainState) → IsNumbered plain → IsFaithful store.now next plain →
-            Knows self.old plain → Knows self.new plain × (self.new.since ≡ next) }
+            KnowsSums self.old plain → KnowsSums self.new plain × (self.new.since ≡ next) }
         ensures stay { IsFresh next self.old → keys_of self.new.pieces ≡ keys_of self.old.pieces }
         ensures same { next ≡ self.old.since → self.new ≡ self.old }
     {
@@ -123,7 +123,7 @@ impl KnownSums {
     /// Forgets the sums if many rows were inserted since they were last used. The next sum would forget them
     /// anyway, so a change needn't adjust them.
     fn forget_if_late(&mut self, next: u64)
-        ensures { self.new ≡ left next self.old }
+        ensures { self.new ≡ left_known next self.old }
     {
         if next.saturating_sub(self.since) > MOST_PLACED {
             self.pieces.clear();

@@ -15,7 +15,7 @@ ghost use Rattle.crack_part.specs.Parts.{CracksAndMerges, StopsAt};
 ghost use Rattle.crack_part.specs.Parts.{Serves, ServesCleared, Spares, SparesCleared, Prepares, Performs};
 ghost use Rattle.crack_part.specs.Forgetting.{PreparesBy, SparesBy, ServesBy, StopsBy};
 ghost use Rattle.crack_part.specs.Refusals.{is_key_in, refusal_of};
-ghost use Rattle.crack_part.specs.KnownSums.{Knows, KnowsThen};
+ghost use Rattle.crack_part.specs.KnownSums.{KnowsSums, KnowsThen};
 ghost use Rattle.crack_part.specs.Cells.{takes_cell, lacks_cell, may_clear};
 ghost use Rattle.crack_part.specs.Upkeep.{is_automatic, is_full, is_due, answered};
 ghost use Rattle.crack_part.specs.Inside.{AreCommon, MayPerform, early_refusal_of, Frees, FreesNone, Applies};
@@ -27,7 +27,8 @@ use crate::reads::{count, select, sum};
 use crate::replies::{Copies, copied};
 use crate::settling::{crack_and_merge, settle};
 use crack_row::{
-    Command, GREATEST_LIMIT, KeyRange, Layout, Limits, Policy, Refusal, Reply, Row, RowList, Upkeep,
+    Command, GREATEST_LIMIT, KeyRange, Layout, Limits, Policy, Refusal, Reply, Row, RowList,
+    Serial, Upkeep,
 };
 use crack_store::{MergeReport, Store};
 use std::alloc::Global;
@@ -200,6 +201,14 @@ impl Partition {
         ensures { result ≡ is_due self.now.limits self.now.since }
     {
         self.is_at_limit() && is_automatic(self.limits.upkeep)
+    }
+
+    /// Makes room for the next `rows` insertions, if memory for them is found. Changes nothing else. O(1), except for
+    /// growth.
+    pub fn make_room_for(&mut self, rows: usize)
+        ensures { self.new ≡ self.old }
+    {
+        let _ = self.store.make_room_for(Serial(self.next), rows);
     }
 
     /// Answers one command, and counts it.
@@ -490,13 +499,13 @@ fn answer(
         MayPerform next.old (change_of command.now) ready }
     requires small { next.old + 1 < 2 ^ 64 }
     ensures replies { IfOk result (λ reply. (plain : PlainState) → IsNumbered plain → IsFaithful store.old next.old
-        plain → Knows known.old plain → reply ≡ reply_to plain command.now) }
+        plain → KnowsSums known.old plain → reply ≡ reply_to plain command.now) }
     ensures small { IfOk result (λ reply. (plain : PlainState) → IsNumbered plain → IsFaithful store.old next.old plain
         → length plain.rows < 2 ^ 32 → IsSmall reply) }
     ensures lists { IfOk result (λ reply. (Prepares policy keys (range_of command.now) store.old store.new ×
         (next.new ≡ next.old) × (change_of command.now ≡ None)) ⊎ IsFlat reply) }
     ensures knows { (plain : PlainState) → IsNumbered plain → IsFaithful store.old next.old plain →
-        Knows known.old plain → KnowsThen known.new plain command.now result }
+        KnowsSums known.old plain → KnowsThen known.new plain command.now result }
     ensures served { OnOk result (ServesCleared policy keys next.old command.now store.old store.new) }
     ensures passed { OnOk result (ServesBy policy keys next.old command.now passes.old store.old passes.new store.new) }
     ensures faithful { OnOk result ((plain : PlainState) → IsFaithful store.old next.old plain →
@@ -528,7 +537,7 @@ fn prepare(
     ensures passed { OnOk result (PreparesBy policy keys range passes.old store.old passes.new store.new) }
     ensures common { IfOk result (λ common. AreCommon range keys common) }
     ensures settled { IfOk result (λ common. IfSome common (λ r. IsSettled store.new r)) }
-    ensures knows { (plain : PlainState) → Knows known.old plain → Knows known.new plain }
+    ensures knows { (plain : PlainState) → KnowsSums known.old plain → KnowsSums known.new plain }
     ensures spared { OnErr result (SparesCleared policy keys range store.old store.new) }
     ensures stopped { OnErr result (SparesBy policy keys range passes.old store.old passes.new store.new) }
     ensures err { IfErr result (λ e. e ≡ Refusal.OutOfMemory) }
@@ -564,12 +573,12 @@ fn carry_out(
     requires admissible { MayPerform next.old (change_of command.now) store.old }
     requires small { next.old + 1 < 2 ^ 64 }
     ensures reply { IfOk result (λ reply. (plain : PlainState) → IsNumbered plain → IsFaithful store.old next.old plain
-        → Knows known.old plain → reply ≡ reply_to plain command.now) }
+        → KnowsSums known.old plain → reply ≡ reply_to plain command.now) }
     ensures flat { IfOk result (λ reply. (change_of command.now ≡ None) ⊎ IsFlat reply) }
     ensures small { IfOk result (λ reply. (plain : PlainState) → IsNumbered plain → IsFaithful store.old next.old plain
         → length plain.rows < 2 ^ 32 → IsSmall reply) }
     ensures knows { (plain : PlainState) → IsNumbered plain → IsFaithful store.old next.old plain →
-        Knows known.old plain → KnowsThen known.new plain command.now result }
+        KnowsSums known.old plain → KnowsThen known.new plain command.now result }
     ensures performed { OnOk result (Performs next.old (change_of command.now) store.old store.new) }
     ensures faithful { OnOk result ((plain : PlainState) → IsFaithful store.old next.old plain →
         IsFaithful store.new next.new (after plain command.now)) }

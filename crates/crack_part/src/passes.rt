@@ -29,7 +29,7 @@ pub(crate) struct Passes {
 }
 
 impl Passes {
-    /// No pass was made yet.
+    /// What is recorded before the first pass.
     pub(crate) fn new() -> Passes
         ensures { result ≡ record { counted = 0; stopped = None } }
     {

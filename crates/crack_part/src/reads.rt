@@ -7,7 +7,7 @@ ghost use Rattle.crack_plain.specs.Plain.{PlainState, IsNumbered, rows_in};
 ghost use Rattle.crack_state.specs.State.{live_rows};
 ghost use Rattle.crack_state.specs.Merge.{IsSettled};
 ghost use Rattle.crack_part.specs.Inside.{IsCommon};
-ghost use Rattle.crack_part.specs.KnownSums.{Knows};
+ghost use Rattle.crack_part.specs.KnownSums.{KnowsSums};
 ghost use Rattle.crack_part.specs.Parts.{IsFaithful};
 
 use crate::known::KnownSums;
@@ -40,8 +40,8 @@ pub(crate) fn sum(store: &Store, known: &mut KnownSums, next: u64, common: Optio
     requires filled { IfSome common (λ r. r.low < r.high) }
     requires settled { IfSome common (λ r. IsSettled store.now r) }
     ensures is { (range : Range) → IsCommon range store.now.keys common → (plain : PlainState) → IsNumbered plain →
-        IsFaithful store.now next plain → Knows known.old plain → (result ≡ sum_of (rows_in range plain.rows)) ×
-        Knows known.new plain }
+        IsFaithful store.now next plain → KnowsSums known.old plain → (result ≡ sum_of (rows_in range plain.rows)) ×
+        KnowsSums known.new plain }
     ensures small { (neg_ℤ (pos (2 ^ 96)) <ℤ result) × (result <ℤ pos (2 ^ 96)) }
 {
     store.facts();
@@ -54,7 +54,7 @@ pub(crate) fn sum(store: &Store, known: &mut KnownSums, next: u64, common: Optio
     }
 }
 
-/// Whether rows can have this sum.
+/// Whether rows can have this sum: it is between -2^96 and 2^96.
 fn is_small(sum: i128) -> bool
     ensures { IsTrue result ↔ (neg_ℤ (pos (2 ^ 96)) <ℤ sum) × (sum <ℤ pos (2 ^ 96)) }
 {

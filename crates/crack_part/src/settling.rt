@@ -7,7 +7,7 @@ ghost use Rattle.crack_merge.specs.Merges.{Stops};
 ghost use Rattle.crack_part.specs.Parts.{is_merged_first, read_by, CracksAndMerges};
 ghost use Rattle.crack_part.specs.Forgetting.{SettlesBy, StopsReadBy};
 ghost use Rattle.crack_part.specs.Inside.{Readies};
-ghost use Rattle.crack_part.specs.KnownSums.{Knows};
+ghost use Rattle.crack_part.specs.KnownSums.{KnowsSums};
 ghost use Rattle.crack_part.specs.Parts.{CracksBy, LeavesNear, StopsAt};
 
 use crate::coarsening::coarsen;
@@ -39,7 +39,7 @@ pub(crate) fn settle(
     requires high { range.high ≤ keys.high }
     ensures settled { OnOk result (SettlesBy policy passes.old store.old passes.new store.new range) }
     ensures stopped { OnErr result (StopsReadBy policy passes.old store.old passes.new store.new range) }
-    ensures knows { (plain : PlainState) → Knows known.old plain → Knows known.new plain }
+    ensures knows { (plain : PlainState) → KnowsSums known.old plain → KnowsSums known.new plain }
     ensures err { IfErr result (λ e. e ≡ Refusal.OutOfMemory) }
 {
     make_ready(store, alloc, keys, policy)?;

@@ -9,9 +9,9 @@ use Rattle.crack_arena.specs.Rows.{key_at, unknown}
 use Rattle.crack_arena.specs.Memories.{Memory, nothing, Remembers}
 use Rattle.crack_arena.proofs.Remembering.{Remembers-append}
 use Rattle.crack_pending.proofs.Remembering.{Remembers-remove}
-use Rattle.crack_pending.specs.Ahead.{AreAhead, IsAmong}
+use Rattle.crack_pending.specs.Ahead.{AreCandidates, IsAmong}
 use Rattle.crack_pending.specs.Codes.{Coding, AreCoded, IsWindow}
-use Rattle.crack_pending.specs.Inside.{Lies, AreKnown, KnowRows, IsMissed}
+use Rattle.crack_pending.specs.Inside.{Lies, KeysAreKnown, KnowRows, IsMissed}
 use Rattle.crack_pending.specs.Keeps.{HasRow, place_at, keys_of}
 use Rattle.crack_pending.specs.Passed.{IsPassed}
 use Rattle.crack_pending.specs.Pending.{rows_inside}
@@ -23,7 +23,7 @@ use Rattle.crack_pending.proofs.Taken.{stood, inside-hole, outside-hole}
 use Rattle.crack_pending.proofs.Unknown.{counted_hole}
 use Rattle.crack_pending.proofs.Views.{place-within, KnowRows-kept}
 
-module _ (remembered : List Memory) (stands : List Bool) (coding : Coding) (coded : AreCoded remembered stands coding) (range : Range) (cells : List (Cell Row)) (handles : List Handle) (first last beyond : ℕ) (w : IsWindow coding.base coding.shift range first last beyond) (known : KnowRows cells handles remembered stands) (all : AreKnown remembered stands) (from to : ℕ) (candidates : List ℕ) (ahead : AreAhead coding.codes first last from to candidates 0) (before : IsMissed range cells handles stands 0 from) where
+module _ (remembered : List Memory) (stands : List Bool) (coding : Coding) (coded : AreCoded remembered stands coding) (range : Range) (cells : List (Cell Row)) (handles : List Handle) (first last beyond : ℕ) (w : IsWindow coding.base coding.shift range first last beyond) (known : KnowRows cells handles remembered stands) (all : KeysAreKnown remembered stands) (from to : ℕ) (candidates : List ℕ) (ahead : AreCandidates coding.codes first last from to candidates 0) (before : IsMissed range cells handles stands 0 from) where
   -- no row up to a spot is in the range, if none of the candidates before it still is
   pub missed_ahead : (stands' : List Bool) → ((spot : ℕ) → HasRow stands' spot → HasRow stands spot) → (k : ℕ) → ((j : ℕ) → j < k → HasRow stands' (get_or candidates j 0) → ¬ IsIn range (key_at cells (get_or handles (get_or candidates j 0) no_handle))) → (limit : ℕ) → limit ≤ to → ((j : ℕ) → k ≤ j → j < length candidates → limit ≤ get_or candidates j 0) → IsMissed range cells handles stands' 0 limit
   missed_ahead stands' still k done limit within others spot after less at = elim (cases_lt spot from) [

@@ -10,7 +10,7 @@ use Rattle.crack_row.specs.declared.Row.{Row}
 use Rattle.crack_arena.specs.Arena.{Cell, Handle}
 use Rattle.crack_arena.specs.Rows.{unknown}
 use Rattle.crack_arena.specs.Memories.{Memory, nothing}
-use Rattle.crack_pending.specs.Inside.{KnowRows, AreKnown, Lies, IsMissed}
+use Rattle.crack_pending.specs.Inside.{KnowRows, KeysAreKnown, Lies, IsMissed}
 
 -- if no flag was set, the last wasn't
 pub no_flag : (any : ℕ) (b : Bool) → bit_or any (bool_byte b) ≡ 0 → (any ≡ 0) × (b ≡ false)
@@ -30,7 +30,7 @@ apart_code code low last order small far lies =
     absurd (omega (arith, beyond, order, small, lies.0, lies.1))
 
 -- if none of a block's keys lies between the ends of the range, and none is unknown, none of its rows has its key in the range
-pub missed_block : (range : Range) (cells : List (Cell Row)) (handles : List Handle) (remembered : List Memory) (stands : List Bool) (from low last : ℕ) (some_unknown : Bool) → KnowRows cells handles remembered stands → (some_unknown ≡ false → AreKnown remembered stands) → range.low ≡ low → range.high ≡ last + 1 → ((k : ℕ) → k < 16 → ¬ Lies low last (get_or (take (from + 16 - from) (drop from remembered)) k nothing).key) → (some_unknown ≡ true → (k : ℕ) → k < 16 → (get_or (take (from + 16 - from) (drop from remembered)) k nothing).key ≢ unknown) → IsMissed range cells handles stands from (from + 16)
+pub missed_block : (range : Range) (cells : List (Cell Row)) (handles : List Handle) (remembered : List Memory) (stands : List Bool) (from low last : ℕ) (some_unknown : Bool) → KnowRows cells handles remembered stands → (some_unknown ≡ false → KeysAreKnown remembered stands) → range.low ≡ low → range.high ≡ last + 1 → ((k : ℕ) → k < 16 → ¬ Lies low last (get_or (take (from + 16 - from) (drop from remembered)) k nothing).key) → (some_unknown ≡ true → (k : ℕ) → k < 16 → (get_or (take (from + 16 - from) (drop from remembered)) k nothing).key ≢ unknown) → IsMissed range cells handles stands from (from + 16)
 missed_block range cells handles remembered stands from low last some_unknown known all_known is_low is_high none none_unknown spot after before at inside =
     let k = spot - from in
     let within : k < 16 = omega (arith, after, before) in

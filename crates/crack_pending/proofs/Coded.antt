@@ -10,9 +10,9 @@ use Rattle.crack_row.specs.declared.Row.{Row}
 use Rattle.crack_arena.specs.Arena.{Cell, Handle, no_handle}
 use Rattle.crack_arena.specs.Rows.{key_at, unknown}
 use Rattle.crack_arena.specs.Memories.{Memory, nothing}
-use Rattle.crack_pending.specs.Codes.{Coding, code_of, AreCoded, IsWindow}
+use Rattle.crack_pending.specs.Codes.{Coding, key_code, AreCoded, IsWindow}
 use Rattle.crack_pending.specs.Keeps.{HasRow}
-use Rattle.crack_pending.specs.Inside.{KnowRows, AreKnown, Lies, IsMissed, IsHit}
+use Rattle.crack_pending.specs.Inside.{KnowRows, KeysAreKnown, Lies, IsMissed, IsHit}
 use Rattle.crack_pending.proofs.Kept.{Stands-within}
 
 div-le : (a b k : ℕ) → 0 < k → a ≤ b → a / k ≤ b / k
@@ -23,19 +23,19 @@ pow_some zero = omega arith
 pow_some (suc n) = omega (arith, pow_some n)
 
 -- codes rise with the keys
-pub code_of-le : (base shift a b : ℕ) → a ≤ b → code_of base shift a ≤ code_of base shift b
+pub code_of-le : (base shift a b : ℕ) → a ≤ b → key_code base shift a ≤ key_code base shift b
 code_of-le base shift a b l =
     let below : (a - base) / 2 ^ shift ≤ (b - base) / 2 ^ shift = div-le (a - base) (b - base) (2 ^ shift) (pow_some shift) (omega (arith, l)) in
     omega (arith, below)
 
 -- so a key with a lower code is lower
-pub code_of-lt : (base shift a b : ℕ) → code_of base shift a < code_of base shift b → a < b
+pub code_of-lt : (base shift a b : ℕ) → key_code base shift a < key_code base shift b → a < b
 code_of-lt base shift a b l = elim (cases_lt a b) [
   | inl m ↦ m
   | inr m ↦ absurd (omega (arith, l, code_of-le base shift b a m))
 ]
 
-pub code_of-small : (base shift key : ℕ) → code_of base shift key < 65535
+pub code_of-small : (base shift key : ℕ) → key_code base shift key < 65535
 code_of-small base shift key = omega arith
 
 -- the window's ends are in order, and none is that of a hole
@@ -59,7 +59,7 @@ coded_none remembered stands coding none = record {
 
 module _ (remembered : List Memory) (stands : List Bool) (coding : Coding) (coded : AreCoded remembered stands coding) where
   -- the next spot is coded
-  pub coded_more : (code : ℕ) → length coding.codes < length remembered → (HasRow stands (length coding.codes) → code ≡ code_of coding.base coding.shift ((get_or remembered (length coding.codes) nothing).key)) → (get_or stands (length coding.codes) false ≡ false → code ≡ 65535) → AreCoded remembered stands (record coding { codes = coding.codes ++ code ∷ [] })
+  pub coded_more : (code : ℕ) → length coding.codes < length remembered → (HasRow stands (length coding.codes) → code ≡ key_code coding.base coding.shift ((get_or remembered (length coding.codes) nothing).key)) → (get_or stands (length coding.codes) false ≡ false → code ≡ 65535) → AreCoded remembered stands (record coding { codes = coding.codes ++ code ∷ [] })
   coded_more code within row hole =
       let long = length-append coding.codes (code ∷ []) in
       let here : (spot : ℕ) → spot ≡ length coding.codes → get_or (coding.codes ++ code ∷ []) spot 0 ≡ code = λ spot e. get_or_push coding.codes code 0 spot (sym e) in
@@ -100,9 +100,9 @@ module _ (remembered : List Memory) (stands : List Bool) (coding : Coding) (code
       }
 
   -- a row has another key
-  pub coded_key : (spot : ℕ) (m : Memory) → HasRow stands spot → AreCoded (set remembered spot m) stands (record coding { codes = set coding.codes spot (code_of coding.base coding.shift m.key) })
+  pub coded_key : (spot : ℕ) (m : Memory) → HasRow stands spot → AreCoded (set remembered spot m) stands (record coding { codes = set coding.codes spot (key_code coding.base coding.shift m.key) })
   coded_key spot m at =
-      let code = code_of coding.base coding.shift m.key in
+      let code = key_code coding.base coding.shift m.key in
       let long = length-set coding.codes spot code in
       record {
         few = omega (arith, long, coded.few, length-set remembered spot m);
@@ -142,11 +142,11 @@ module _ (remembered : List Memory) (stands : List Bool) (coding : Coding) (code
 
   module _ (range : Range) (cells : List (Cell Row)) (handles : List Handle) (first last beyond : ℕ) (w : IsWindow coding.base coding.shift range first last beyond) (known : KnowRows cells handles remembered stands) where
     -- a row whose code is none that is looked for has its key outside of the range
-    pub missed_code : (some_unknown : Bool) → (some_unknown ≡ false → AreKnown remembered stands) → (spot : ℕ) → spot < length coding.codes → HasRow stands spot → ¬ Lies first last (get_or coding.codes spot 0) → (some_unknown ≡ true → ¬ Lies beyond beyond (get_or coding.codes spot 0)) → ¬ IsIn range (key_at cells (get_or handles spot no_handle))
+    pub missed_code : (some_unknown : Bool) → (some_unknown ≡ false → KeysAreKnown remembered stands) → (spot : ℕ) → spot < length coding.codes → HasRow stands spot → ¬ Lies first last (get_or coding.codes spot 0) → (some_unknown ≡ true → ¬ Lies beyond beyond (get_or coding.codes spot 0)) → ¬ IsIn range (key_at cells (get_or handles spot no_handle))
     missed_code some_unknown all_known spot within at apart elsewhere inside =
         let code = coded.right spot within at in
         let not_unknown : (get_or remembered spot nothing).key ≢ unknown = λ e. by_flag some_unknown (λ none. all_known none spot at e) (λ some.
-        let is : get_or coding.codes spot 0 ≡ beyond = code ∙ ap (code_of coding.base coding.shift) e ∙ sym w.beyond_is in
+        let is : get_or coding.codes spot 0 ≡ beyond = code ∙ ap (key_code coding.base coding.shift) e ∙ sym w.beyond_is in
         elsewhere some (omega (arith, is), omega (arith, is))) in
         elim (known spot at) [
           | inl e ↦ not_unknown e
@@ -174,7 +174,7 @@ module _ (remembered : List Memory) (stands : List Bool) (coding : Coding) (code
         ]
 
     -- if no code of a block is looked for, none of its rows has its key in the range
-    pub missed_codes : (some_unknown : Bool) → (some_unknown ≡ false → AreKnown remembered stands) → (many from : ℕ) → from + many ≤ length coding.codes → ((k : ℕ) → k < many → ¬ Lies first last (get_or (take (from + many - from) (drop from coding.codes)) k 0)) → (some_unknown ≡ true → (k : ℕ) → k < many → ¬ Lies beyond beyond (get_or (take (from + many - from) (drop from coding.codes)) k 0)) → IsMissed range cells handles stands from (from + many)
+    pub missed_codes : (some_unknown : Bool) → (some_unknown ≡ false → KeysAreKnown remembered stands) → (many from : ℕ) → from + many ≤ length coding.codes → ((k : ℕ) → k < many → ¬ Lies first last (get_or (take (from + many - from) (drop from coding.codes)) k 0)) → (some_unknown ≡ true → (k : ℕ) → k < many → ¬ Lies beyond beyond (get_or (take (from + many - from) (drop from coding.codes)) k 0)) → IsMissed range cells handles stands from (from + many)
     missed_codes some_unknown all_known many from short apart elsewhere spot after before at =
         let k = spot - from in
         let within : k < many = omega (arith, after, before) in

@@ -2,11 +2,11 @@
 use Rattle.std.proofs.Common.{◌≡◌, ℕ, ◌+◌, ◌-◌, ◌<◌, ◌≤◌, List, [], ◌∷◌, ◌++◌, length, get_or, set, take, drop, refl, sym, ap, ◌∙◌, inl, inr, arith, length-set, length-append}
 use Rattle.std.proofs.lemmas.Bool.{cases_eq, cases_lt}
 use Rattle.std.proofs.lemmas.List.{get_or-set_same, get_or-set_other, get_or_append_left, get_or_push, get_or-take, get_or-drop}
-use Rattle.crack_pending.specs.Ahead.{AreAhead, IsNext}
+use Rattle.crack_pending.specs.Ahead.{AreCandidates, IsNext}
 use Rattle.crack_pending.specs.Inside.{Lies}
 
 -- nothing was found yet
-pub ahead_none : (codes : List ℕ) (first last from : ℕ) → first ≤ last → last < 65535 → from ≤ length codes → AreAhead codes first last from from [] 0
+pub ahead_none : (codes : List ℕ) (first last from : ℕ) → first ≤ last → last < 65535 → from ≤ length codes → AreCandidates codes first last from from [] 0
 ahead_none codes first last from order low within = record {
   order = order;
   low = low;
@@ -17,9 +17,9 @@ ahead_none codes first last from order low within = record {
   rising = λ j k before short. absurd (omega (arith, short));
 }
 
-module _ (codes : List ℕ) (first last from to : ℕ) (candidates : List ℕ) (next : ℕ) (are : AreAhead codes first last from to candidates next) where
+module _ (codes : List ℕ) (first last from to : ℕ) (candidates : List ℕ) (next : ℕ) (are : AreCandidates codes first last from to candidates next) where
   -- candidates that were passed
-  pub ahead_passed : (start place : ℕ) → from ≤ start → start ≤ to → next ≤ place → ((k : ℕ) → next ≤ k → k < place → get_or candidates k 0 < start) → (place < length candidates → start ≤ get_or candidates place 0) → AreAhead codes first last start to candidates place
+  pub ahead_passed : (start place : ℕ) → from ≤ start → start ≤ to → next ≤ place → ((k : ℕ) → next ≤ k → k < place → get_or candidates k 0 < start) → (place < length candidates → start ≤ get_or candidates place 0) → AreCandidates codes first last start to candidates place
   ahead_passed start place after before onward passed reached = record {
     order = are.order;
     low = are.low;
@@ -47,7 +47,7 @@ module _ (codes : List ℕ) (first last from to : ℕ) (candidates : List ℕ) (
   }
 
   -- a row goes
-  pub ahead_hole : (spot : ℕ) → AreAhead (set codes spot 65535) first last from to candidates next
+  pub ahead_hole : (spot : ℕ) → AreCandidates (set codes spot 65535) first last from to candidates next
   ahead_hole spot = record {
     order = are.order;
     low = are.low;
@@ -64,7 +64,7 @@ module _ (codes : List ℕ) (first last from to : ℕ) (candidates : List ℕ) (
   }
 
   -- more codes after them
-  pub ahead_longer : (codes' : List ℕ) → length codes ≤ length codes' → take (length codes) codes' ≡ codes → AreAhead codes' first last from to candidates next
+  pub ahead_longer : (codes' : List ℕ) → length codes ≤ length codes' → take (length codes) codes' ≡ codes → AreCandidates codes' first last from to candidates next
   ahead_longer codes' longer same =
       let alike : (k : ℕ) → k < length codes → get_or codes' k 0 ≡ get_or codes k 0 = λ k l.
       sym (get_or-take (length codes) codes' k 0 l) ∙ ap (λ xs. get_or xs k 0) same in
@@ -85,7 +85,7 @@ module _ (codes : List ℕ) (first last from to : ℕ) (candidates : List ℕ) (
       absurd (omega (arith, one.from, one.within, none))
 
   -- and then it goes on from there with none
-  pub ahead_on : AreAhead codes first last to to [] 0
+  pub ahead_on : AreCandidates codes first last to to [] 0
   ahead_on = ahead_none codes first last to are.order are.low are.within
 
   -- the next candidate
@@ -124,9 +124,9 @@ next_from codes first last start from near order none next = record {
   ];
 }
 
-module _ (codes : List ℕ) (first last from to : ℕ) (candidates : List ℕ) (are : AreAhead codes first last from to candidates 0) where
+module _ (codes : List ℕ) (first last from to : ℕ) (candidates : List ℕ) (are : AreCandidates codes first last from to candidates 0) where
   -- one more candidate
-  pub gathered_hit : to < length codes → AreAhead codes first last from (to + 1) (candidates ++ to ∷ []) 0
+  pub gathered_hit : to < length codes → AreCandidates codes first last from (to + 1) (candidates ++ to ∷ []) 0
   gathered_hit within =
       let long = length-append candidates (to ∷ []) in
       let last_is : get_or (candidates ++ to ∷ []) (length candidates) 0 ≡ to = get_or_push candidates to 0 (length candidates) refl in
@@ -173,7 +173,7 @@ module _ (codes : List ℕ) (first last from to : ℕ) (candidates : List ℕ) (
       below j l = (are.inside j (omega arith) l).1
 
   -- some more codes, none of which lies between the two
-  pub gathered_more : (more : ℕ) → to + more ≤ length codes → ((spot : ℕ) → to ≤ spot → spot < to + more → ¬ Lies first last (get_or codes spot 0)) → AreAhead codes first last from (to + more) candidates 0
+  pub gathered_more : (more : ℕ) → to + more ≤ length codes → ((spot : ℕ) → to ≤ spot → spot < to + more → ¬ Lies first last (get_or codes spot 0)) → AreCandidates codes first last from (to + more) candidates 0
   gathered_more more within none = record {
     order = are.order;
     low = are.low;
@@ -188,12 +188,12 @@ module _ (codes : List ℕ) (first last from to : ℕ) (candidates : List ℕ) (
   }
 
   -- one more code
-  pub gathered_miss : to < length codes → ¬ Lies first last (get_or codes to 0) → AreAhead codes first last from (to + 1) candidates 0
+  pub gathered_miss : to < length codes → ¬ Lies first last (get_or codes to 0) → AreCandidates codes first last from (to + 1) candidates 0
   gathered_miss within apart = gathered_more 1 (omega (arith, within)) (λ spot behind before lies.
       let e : spot ≡ to = omega (arith, behind, before) in apart (rw e at lies))
 
   -- one more block
-  pub gathered_block : to + 32 ≤ length codes → ((k : ℕ) → k < 32 → ¬ Lies first last (get_or (take (to + 32 - to) (drop to codes)) k 0)) → AreAhead codes first last from (to + 32) candidates 0
+  pub gathered_block : to + 32 ≤ length codes → ((k : ℕ) → k < 32 → ¬ Lies first last (get_or (take (to + 32 - to) (drop to codes)) k 0)) → AreCandidates codes first last from (to + 32) candidates 0
   gathered_block within apart = gathered_more 32 within (λ spot behind before lies.
       let k = spot - to in
       let place : to + k ≡ spot = omega (arith, behind) in

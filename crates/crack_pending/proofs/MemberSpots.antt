@@ -4,14 +4,14 @@ use Rattle.crack_arena.specs.Arena.{Handle, no_handle, times, slots}
 use Rattle.crack_arena.proofs.Times.{times-nil}
 use Rattle.crack_arena.specs.Memories.{Memory}
 use Rattle.crack_pending.specs.Inside.{IsSpotWith}
-use Rattle.crack_pending.specs.Keeps.{place_at, Has, AreKept, AreMembers}
+use Rattle.crack_pending.specs.Keeps.{place_at, Has, IsSoundList, AreMembers}
 use Rattle.crack_pending.specs.Spots.{kept}
 use Rattle.crack_pending.proofs.Kept.{kept-at, kept-hole, kept-push}
 use Rattle.crack_pending.proofs.Members.{members_more, members_less}
 use Rattle.crack_pending.proofs.Taken.{times-parted}
 use Rattle.crack_pending.proofs.Views.{once, place-within}
 
-module _ {handles : List Handle} {remembered : List Memory} {stands : List Bool} {spots : List ℕ} {rows noted hint_place hint_spot : ℕ} (are : AreKept handles remembered stands spots rows noted hint_place hint_spot) {words : List ℕ} {covered : ℕ} (members : AreMembers words (kept stands handles) covered) (words' : List ℕ) (long : length words' ≡ length words) where
+module _ {handles : List Handle} {remembered : List Memory} {stands : List Bool} {spots : List ℕ} {rows noted hint_place hint_spot : ℕ} (are : IsSoundList handles remembered stands spots rows noted hint_place hint_spot) {words : List ℕ} {covered : ℕ} (members : AreMembers words (kept stands handles) covered) (words' : List ℕ) (long : length words' ≡ length words) where
   -- a row comes, and its cell is put into the set
   pub members_push : (h : Handle) → Has words' h.slot → ((other : ℕ) → other ≢ h.slot → Has words' other ↔ Has words other) → AreMembers words' (kept (stands ++ true ∷ []) (handles ++ h ∷ [])) covered
   members_push h there others =

@@ -6,7 +6,7 @@ use Rattle.crack_arena.specs.Arena.{Handle, times, slots}
 use Rattle.crack_arena.proofs.Times.{times-nil, times-cons}
 use Rattle.crack_arena.specs.Memories.{Memory}
 use Rattle.crack_pending.specs.Spots.{kept}
-use Rattle.crack_pending.specs.Keeps.{place_at, HasRow, AreKept}
+use Rattle.crack_pending.specs.Keeps.{place_at, HasRow, IsSoundList}
 use Rattle.crack_pending.proofs.Kept.{Stands-within}
 
 -- a row that is in the list once another is removed was in it before, at another place
@@ -74,9 +74,9 @@ times-parted p n (h ∷ hs) =
       | inr out ↦ rw out (omega (arith, rest, times-cons n h.slot (slots hs), times-cons n h.slot (slots (filter (λ x. not (p x)) hs))))
     ]
 
-module _ {handles : List Handle} {remembered : List Memory} {stands : List Bool} {spots : List ℕ} {rows noted hint_place hint_spot : ℕ} (are : AreKept handles remembered stands spots rows noted hint_place hint_spot) where
+module _ {handles : List Handle} {remembered : List Memory} {stands : List Bool} {spots : List ℕ} {rows noted hint_place hint_spot : ℕ} (are : IsSoundList handles remembered stands spots rows noted hint_place hint_spot) where
   -- some rows less, and no hint
-  pub kept_taken : (stands' : List Bool) (rows' : ℕ) → length stands' ≡ length stands → ((spot : ℕ) → HasRow stands' spot → HasRow stands spot) → rows' ≡ place_at stands' (length stands') → AreKept handles remembered stands' spots rows' noted 0 0
+  pub kept_taken : (stands' : List Bool) (rows' : ℕ) → length stands' ≡ length stands → ((spot : ℕ) → HasRow stands' spot → HasRow stands spot) → rows' ≡ place_at stands' (length stands') → IsSoundList handles remembered stands' spots rows' noted 0 0
   kept_taken stands' rows' long stood counted = record {
     remembered_beside = are.remembered_beside;
     stands_beside = long ∙ are.stands_beside;

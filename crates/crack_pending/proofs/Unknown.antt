@@ -8,7 +8,7 @@ use Rattle.crack_arena.proofs.Times.{times-nil, times_one, times_head, times-map
 use Rattle.crack_arena.specs.Memories.{Memory, nothing}
 use Rattle.crack_pending.specs.Spots.{kept}
 use Rattle.crack_pending.specs.Keeps.{place_at, HasRow, keys_of}
-use Rattle.crack_pending.specs.Inside.{AreKnown}
+use Rattle.crack_pending.specs.Inside.{KeysAreKnown}
 use Rattle.crack_pending.proofs.Kept.{length-kept, kept-at, kept-hole, kept-set, kept-push, place_at-few, place_at-before, Stands-within}
 
 -- one more key, counted
@@ -53,7 +53,7 @@ module _ (remembered : List Memory) (stands : List Bool) (beside : length stands
       let hole = rw is at (counted_hole spot at) in
       omega (arith, hole, times_head unknown [])
 
-  pub counted_none : times unknown (keys_of (kept stands remembered)) ≡ 0 → AreKnown remembered stands
+  pub counted_none : times unknown (keys_of (kept stands remembered)) ≡ 0 → KeysAreKnown remembered stands
   counted_none none spot at is = absurd (omega (arith, none, counted_some spot at is))
 
   pub counted_few : times unknown (keys_of (kept stands remembered)) ≤ length remembered

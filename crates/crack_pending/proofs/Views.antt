@@ -14,7 +14,7 @@ use Rattle.crack_arena.specs.Memories.{Memory, nothing, memory_at, Agrees, Remem
 use Rattle.std.specs.Prelude.{Result, Ok, Err, OnOk, min}
 use Rattle.crack_pending.specs.Pending.{Pending, NoneIn, IsFirstIn}
 use Rattle.crack_pending.specs.Spots.{kept, spot_room}
-use Rattle.crack_pending.specs.Keeps.{place_at, HasRow, LeadBack, StandApart, AreCovered, AreKept, IsClosed}
+use Rattle.crack_pending.specs.Keeps.{place_at, HasRow, LeadBack, StandApart, AreCovered, IsSoundList, IsClosed}
 use Rattle.crack_pending.specs.Inside.{KnowRows, IsMissed, IsHit, IsSpotWith, IsNowhere, IsUnnoted, IsNotBehind}
 use Rattle.crack_pending.proofs.Kept.{place_at-le, place_at-more, place_at-before, place_at-hole_before, place_at-push, place_at-few, kept-full, Stands-within, length-kept, kept-at, kept-hole, kept-set, kept-at_place, spot_of}
 use Rattle.crack_pending.proofs.Moves.{kept-apart, kept-covered}
@@ -119,7 +119,7 @@ module _ (handles : List Handle) (stands : List Bool) (spots : List ℕ) (slot :
     | inr m ↦ behind spot m with
   ]
 
-module _ {handles : List Handle} {remembered : List Memory} {stands : List Bool} {spots : List ℕ} {rows noted hint_place hint_spot : ℕ} (are : AreKept handles remembered stands spots rows noted hint_place hint_spot) where
+module _ {handles : List Handle} {remembered : List Memory} {stands : List Bool} {spots : List ℕ} {rows noted hint_place hint_spot : ℕ} (are : IsSoundList handles remembered stands spots rows noted hint_place hint_spot) where
   -- as many spots are said to have a row or none as have something remembered
   pub memories-beside : length stands ≡ length remembered
   memories-beside = are.stands_beside ∙ sym are.remembered_beside
@@ -197,7 +197,7 @@ module _ (range : Range) (cells : List (Cell Row)) (handles : List Handle) (stan
         before = missed-NoneIn start spot hit.before (omega (arith, within));
       }
 
-pub kept_none : (spots : List ℕ) → AreKept [] [] [] spots 0 0 0 0
+pub kept_none : (spots : List ℕ) → IsSoundList [] [] [] spots 0 0 0 0
 kept_none spots = record {
   remembered_beside = refl;
   stands_beside = refl;
@@ -211,9 +211,9 @@ kept_none spots = record {
   hinted = refl;
 }
 
-module _ {handles : List Handle} {remembered : List Memory} {stands : List Bool} {spots : List ℕ} {rows noted hint_place hint_spot : ℕ} (are : AreKept handles remembered stands spots rows noted hint_place hint_spot) where
+module _ {handles : List Handle} {remembered : List Memory} {stands : List Bool} {spots : List ℕ} {rows noted hint_place hint_spot : ℕ} (are : IsSoundList handles remembered stands spots rows noted hint_place hint_spot) where
   -- one more hole
-  pub kept_hole : (spot hint_place' hint_spot' : ℕ) → HasRow stands spot → hint_spot' ≤ length handles → hint_place' ≡ place_at (set stands spot false) hint_spot' → AreKept handles remembered (set stands spot false) spots (rows - 1) noted hint_place' hint_spot'
+  pub kept_hole : (spot hint_place' hint_spot' : ℕ) → HasRow stands spot → hint_spot' ≤ length handles → hint_place' ≡ place_at (set stands spot false) hint_spot' → IsSoundList handles remembered (set stands spot false) spots (rows - 1) noted hint_place' hint_spot'
   kept_hole spot hint_place' hint_spot' at near hinted =
       let within = Stands-within stands spot at in
       let long = length-set stands spot false in
@@ -237,7 +237,7 @@ module _ {handles : List Handle} {remembered : List Memory} {stands : List Bool}
       }
 
   -- one more row, after all spots
-  pub kept_more : (h : Handle) (m : Memory) → length handles < 2 ^ 32 → h.slot < length spots → times h.slot (slots (kept stands handles)) ≡ 0 → AreKept (handles ++ h ∷ []) (remembered ++ m ∷ []) (stands ++ true ∷ []) spots (rows + 1) noted hint_place hint_spot
+  pub kept_more : (h : Handle) (m : Memory) → length handles < 2 ^ 32 → h.slot < length spots → times h.slot (slots (kept stands handles)) ≡ 0 → IsSoundList (handles ++ h ∷ []) (remembered ++ m ∷ []) (stands ++ true ∷ []) spots (rows + 1) noted hint_place hint_spot
   kept_more h m few covered absent =
       let long = length-append handles (h ∷ []) in
       let stands_long = length-append stands (true ∷ []) in
@@ -291,7 +291,7 @@ module _ {handles : List Handle} {remembered : List Memory} {stands : List Bool}
       }
 
   -- something else remembered
-  pub kept_memory : (spot : ℕ) (m : Memory) → AreKept handles (set remembered spot m) stands spots rows noted hint_place hint_spot
+  pub kept_memory : (spot : ℕ) (m : Memory) → IsSoundList handles (set remembered spot m) stands spots rows noted hint_place hint_spot
   kept_memory spot m = record {
     remembered_beside = length-set remembered spot m ∙ are.remembered_beside;
     stands_beside = are.stands_beside;
@@ -306,7 +306,7 @@ module _ {handles : List Handle} {remembered : List Memory} {stands : List Bool}
   }
 
   -- more cells covered
-  pub kept_covered : (spots' : List ℕ) → length spots ≤ length spots' → ((k : ℕ) → k < length spots → get_or spots' k 0 ≡ get_or spots k 0) → AreKept handles remembered stands spots' rows noted hint_place hint_spot
+  pub kept_covered : (spots' : List ℕ) → length spots ≤ length spots' → ((k : ℕ) → k < length spots → get_or spots' k 0 ≡ get_or spots k 0) → IsSoundList handles remembered stands spots' rows noted hint_place hint_spot
   kept_covered spots' longer same = record {
     remembered_beside = are.remembered_beside;
     stands_beside = are.stands_beside;
@@ -324,7 +324,7 @@ module _ {handles : List Handle} {remembered : List Memory} {stands : List Bool}
   }
 
   -- all spots noted
-  pub kept_noted : (spots' : List ℕ) → length spots' ≡ length spots → LeadBack handles stands spots' (length handles) → AreKept handles remembered stands spots' rows (length handles) hint_place hint_spot
+  pub kept_noted : (spots' : List ℕ) → length spots' ≡ length spots → LeadBack handles stands spots' (length handles) → IsSoundList handles remembered stands spots' rows (length handles) hint_place hint_spot
   kept_noted spots' long led = record {
     remembered_beside = are.remembered_beside;
     stands_beside = are.stands_beside;
@@ -383,7 +383,7 @@ pub handle-is : (h k : Handle) → h.slot ≡ k.slot → h.generation ≡ k.gene
 handle-is h k e f = rw (e, f) refl
 
 -- where holes are closed up
-module _ {handles : List Handle} {remembered : List Memory} {stands : List Bool} {spots : List ℕ} {rows noted hint_place hint_spot : ℕ} (are : AreKept handles remembered stands spots rows noted hint_place hint_spot) {handles' : List Handle} {remembered' : List Memory} {stands' : List Bool} (closed : IsClosed handles remembered stands rows handles' remembered' stands') where
+module _ {handles : List Handle} {remembered : List Memory} {stands : List Bool} {spots : List ℕ} {rows noted hint_place hint_spot : ℕ} (are : IsSoundList handles remembered stands spots rows noted hint_place hint_spot) {handles' : List Handle} {remembered' : List Memory} {stands' : List Bool} (closed : IsClosed handles remembered stands rows handles' remembered' stands') where
   closed-beside : length stands' ≡ length handles'
   closed-beside = closed.long ∙ are.counted ∙ sym (length-kept stands handles are.stands_beside) ∙ ap length (sym closed.handles_are)
 
@@ -412,7 +412,7 @@ module _ {handles : List Handle} {remembered : List Memory} {stands : List Bool}
       let all = kept-covered handles stands are.stands_beside (length spots) are.covered in
       (rw (← closed.handles_are) at all) spot no_handle (omega (arith, Stands-within stands' spot at, closed-beside))
 
-  pub closed-kept : AreKept handles' remembered' stands' spots rows 0 0 0
+  pub closed-kept : IsSoundList handles' remembered' stands' spots rows 0 0 0
   closed-kept = record {
     remembered_beside = closed-remembered_beside;
     stands_beside = closed-beside;

@@ -13,7 +13,7 @@ pub record IsAmong (candidates : List ℕ) (next spot : ℕ) : Type 0 where
 
 -- from the position `next` on, the candidates rise, lie from `from` up to `to`, and include each spot there whose
 -- code is `first` to `last`
-pub record AreAhead (codes : List ℕ) (first last from to : ℕ) (candidates : List ℕ) (next : ℕ) : Type 0 where
+pub record AreCandidates (codes : List ℕ) (first last from to : ℕ) (candidates : List ℕ) (next : ℕ) : Type 0 where
   pub order : first ≤ last
   pub low : last < 65535
   pub span : from ≤ to
@@ -24,7 +24,7 @@ pub record AreAhead (codes : List ℕ) (first last from to : ℕ) (candidates : 
 
 -- the candidates that were found ahead of time are right
 abbrev pub IsAhead : List ℕ → Ahead → Type 0
-IsAhead codes ahead = AreAhead codes ahead.first ahead.last ahead.from ahead.to ahead.candidates.items ahead.next
+IsAhead codes ahead = AreCandidates codes ahead.first ahead.last ahead.from ahead.to ahead.candidates.items ahead.next
 
 -- from `start` up to `near` no code is `first` to `last`
 pub record IsNext (codes : List ℕ) (first last start near : ℕ) : Type 0 where

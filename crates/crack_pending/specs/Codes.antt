@@ -13,19 +13,19 @@ pub record Coding : Type 0 where
   pub shift : ℕ
 
 -- the code of a key; of two keys, the higher one never has the lower code
-abbrev pub code_of : ℕ → ℕ → ℕ → ℕ
-code_of base shift key = min ((key - base) / 2 ^ shift) 65534
+abbrev pub key_code : ℕ → ℕ → ℕ → ℕ
+key_code base shift key = min ((key - base) / 2 ^ shift) 65534
 
 -- the code at a spot, if it has one, is that of the row's key, or 65535 at a hole
 pub record AreCoded (remembered : List Memory) (stands : List Bool) (coding : Coding) : Type 0 where
   pub few : length coding.codes ≤ length remembered
-  pub right : (spot : ℕ) → spot < length coding.codes → HasRow stands spot → slice_index coding.codes spot ≡ code_of coding.base coding.shift ((slice_index_or remembered spot nothing).key)
+  pub right : (spot : ℕ) → spot < length coding.codes → HasRow stands spot → slice_index coding.codes spot ≡ key_code coding.base coding.shift ((slice_index_or remembered spot nothing).key)
   pub holes : (spot : ℕ) → spot < length coding.codes → slice_index_or stands spot false ≡ false → slice_index coding.codes spot ≡ 65535
 
 -- these are the codes of the range's least key, of its greatest key, and of an unknown key; the range isn't empty
 pub record IsWindow (base shift : ℕ) (range : Range) (first last beyond : ℕ) : Type 0 where
-  pub first_is : first ≡ code_of base shift range.low
-  pub last_is : last ≡ code_of base shift (range.high - 1)
-  pub beyond_is : beyond ≡ code_of base shift unknown
+  pub first_is : first ≡ key_code base shift range.low
+  pub last_is : last ≡ key_code base shift (range.high - 1)
+  pub beyond_is : beyond ≡ key_code base shift unknown
   pub some : range.low < range.high
   pub fits : range.high - 1 ≤ unknown

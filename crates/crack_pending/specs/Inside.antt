@@ -12,8 +12,8 @@ abbrev pub Lies : ℕ → ℕ → ℕ → Type 0
 Lies low last key = (low ≤ key) × (key ≤ last)
 
 -- the key of each row is remembered
-abbrev pub AreKnown : List Memory → List Bool → Type 0
-AreKnown remembered stands = (spot : ℕ) → HasRow stands spot → (slice_index_or remembered spot nothing).key ≢ unknown
+abbrev pub KeysAreKnown : List Memory → List Bool → Type 0
+KeysAreKnown remembered stands = (spot : ℕ) → HasRow stands spot → (slice_index_or remembered spot nothing).key ≢ unknown
 
 -- what is remembered of each row agrees with the row
 abbrev pub KnowRows : List (Cell Row) → List Handle → List Memory → List Bool → Type 0

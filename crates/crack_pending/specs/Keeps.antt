@@ -49,7 +49,7 @@ AreCovered handles stands cells = (spot : ℕ) → HasRow stands spot → (slice
 
 -- the invariants of a list: the vectors have equal lengths of at most 2^32, `rows` is the number of rows, no two
 -- rows have the same cell, the first `noted` spots are noted, and `hint_place` rows are before `hint_spot`
-pub record AreKept (handles : List Handle) (remembered : List Memory) (stands : List Bool) (spots : List ℕ) (rows noted hint_place hint_spot : ℕ) : Type 0 where
+pub record IsSoundList (handles : List Handle) (remembered : List Memory) (stands : List Bool) (spots : List ℕ) (rows noted hint_place hint_spot : ℕ) : Type 0 where
   pub remembered_beside : length remembered ≡ length handles
   pub stands_beside : length stands ≡ length handles
   pub counted : rows ≡ place_at stands (length stands)

@@ -1,8 +1,9 @@
-//! Candidates that a pass over codes finds ahead of time, so that the next search finds them ready.
+//! Candidates: spots whose codes lie in the searched range. A pass over codes finds many of them ahead of time, so
+//! that the next search finds them ready.
 ghost use Rattle.std.specs.Prelude.{◌≡◌, ◌+◌, ◌-◌, ◌<◌, ◌≤◌, ℕ, length, List, [], slice_index};
 ghost use Rattle.std.specs.Prelude.{vec_len, vec_capacity};
 ghost use Rattle.crack_pending.specs.Inside.{Lies};
-ghost use Rattle.crack_pending.specs.Ahead.{AreAhead, IsAhead, IsNext};
+ghost use Rattle.crack_pending.specs.Ahead.{AreCandidates, IsAhead, IsNext};
 
 use crate::code_pass::any_lies;
 use crack_arena::{Arena, Handle};
@@ -111,7 +112,7 @@ impl Ahead {
         self.next = 0;
     }
 
-    /// Passes the candidates before `start`.
+    /// Moves past the candidates before `start`: `near` returns none of them any more.
     fn pass(&mut self, start: usize)
         requires from { self.old.from ≤ start }
         requires to { start ≤ self.old.to }
@@ -216,8 +217,8 @@ fn gather_between(
     requires span { from ≤ to }
     requires within { to ≤ length codes.now }
     requires room { vec_len candidates.old + (to - from) ≤ vec_capacity candidates.old }
-    ensures gathered { (begin : ℕ) → AreAhead codes.now first last begin from candidates.old.items 0
-        → AreAhead codes.now first last begin to candidates.new.items 0 }
+    ensures gathered { (begin : ℕ) → AreCandidates codes.now first last begin from candidates.old.items 0
+        → AreCandidates codes.now first last begin to candidates.new.items 0 }
     ensures length { vec_len candidates.new ≤ vec_len candidates.old + (to - from) }
     ensures capacity { vec_capacity candidates.new ≡ vec_capacity candidates.old }
 {
@@ -243,7 +244,7 @@ pub(crate) fn gather(
     requires within { from ≤ length codes.now }
     requires empty { candidates.old.items ≡ [] }
     requires room { 1024 ≤ vec_capacity candidates.old }
-    ensures ahead { AreAhead codes.now first last from result candidates.new.items 0 }
+    ensures ahead { AreCandidates codes.now first last from result candidates.new.items 0 }
     ensures capacity { vec_capacity candidates.new ≡ vec_capacity candidates.old }
 {
     let mut spot = from;

@@ -31,7 +31,8 @@ pub(crate) fn close_up(
     close_up_stands(stands, rows);
 }
 
-/// Moves the handles of rows to the front, in order.
+/// Closes up the holes among handles: keeps those at the spots with a row, in order. `stands` says which spots have
+/// one.
 fn close_up_handles(handles: &mut Vec<Handle<Row>>, stands: &[bool])
     requires { length stands.now ≡ vec_len handles.old }
     ensures kept { handles.new.items ≡ kept stands.now handles.old.items }
@@ -47,7 +48,8 @@ fn close_up_handles(handles: &mut Vec<Handle<Row>>, stands: &[bool])
     handles.truncate(low);
 }
 
-/// Moves what is remembered of rows to the front, in order.
+/// Closes up the holes in what is remembered: keeps it at the spots with a row, in order. `stands` says which spots
+/// have one.
 fn close_up_remembered(remembered: &mut Vec<Remembered>, stands: &[bool])
     requires { length stands.now ≡ vec_len remembered.old }
     ensures kept { remembered.new.items ≡ kept stands.now remembered.old.items }
@@ -63,7 +65,7 @@ fn close_up_remembered(remembered: &mut Vec<Remembered>, stands: &[bool])
     remembered.truncate(low);
 }
 
-/// Leaves this many spots, each with a row.
+/// Closes up the holes in `stands`, which says whether a spot has a row: leaves `rows` spots, each with a row.
 fn close_up_stands(stands: &mut Vec<bool>, rows: usize)
     requires { rows ≤ vec_len stands.old }
     ensures length { vec_len stands.new ≡ rows }

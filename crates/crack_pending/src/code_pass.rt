@@ -7,7 +7,7 @@ ghost use Rattle.crack_arena.specs.Arena.{no_handle};
 ghost use Rattle.crack_arena.specs.Rows.{key_at};
 ghost use Rattle.crack_pending.specs.Keeps.{HasRow};
 ghost use Rattle.crack_pending.specs.Codes.{AreCoded, IsWindow};
-ghost use Rattle.crack_pending.specs.Inside.{Lies, AreKnown, IsMissed, IsHit, KnowRows};
+ghost use Rattle.crack_pending.specs.Inside.{Lies, KeysAreKnown, IsMissed, IsHit, KnowRows};
 
 use crate::codes::Codes;
 use crate::pass::Wanted;
@@ -145,7 +145,7 @@ pub(crate) fn is_hit(
     requires coded { AreCoded remembered.now stands.now codes.now }
     requires window { IsWindow codes.now.base codes.now.shift range window.first window.last window.beyond }
     requires known { KnowRows arena.now.cells handles.now remembered.now stands.now }
-    requires all_known { IsFalse window.some_unknown → AreKnown remembered.now stands.now }
+    requires all_known { IsFalse window.some_unknown → KeysAreKnown remembered.now stands.now }
     ensures stands { IsTrue result → HasRow stands.now spot }
     ensures holds { IsTrue result → IsIn range (key_at arena.now.cells (slice_index_or handles.now spot no_handle)) }
     ensures missed { IsFalse result → HasRow stands.now spot → ¬ IsIn range (key_at arena.now.cells
@@ -179,7 +179,7 @@ fn hit_between(
     requires coded { AreCoded remembered.now stands.now codes.now }
     requires window { IsWindow codes.now.base codes.now.shift range window.first window.last window.beyond }
     requires known { KnowRows arena.now.cells handles.now remembered.now stands.now }
-    requires all_known { IsFalse window.some_unknown → AreKnown remembered.now stands.now }
+    requires all_known { IsFalse window.some_unknown → KeysAreKnown remembered.now stands.now }
     ensures { MatchOption result
         (IsMissed range arena.now.cells handles.now stands.now from to)
         (λ spot. IsHit range arena.now.cells handles.now stands.now from to spot) }
@@ -212,7 +212,7 @@ fn hit_in_block(
     requires coded { AreCoded remembered.now stands.now codes.now }
     requires window { IsWindow codes.now.base codes.now.shift range window.first window.last window.beyond }
     requires known { KnowRows arena.now.cells handles.now remembered.now stands.now }
-    requires all_known { IsFalse window.some_unknown → AreKnown remembered.now stands.now }
+    requires all_known { IsFalse window.some_unknown → KeysAreKnown remembered.now stands.now }
     ensures { MatchOption result
         (IsMissed range arena.now.cells handles.now stands.now from (from + 32))
         (λ spot. IsHit range arena.now.cells handles.now stands.now from (from + 32) spot) }
@@ -252,7 +252,7 @@ fn hit_in_blocks(
     requires coded { AreCoded remembered.now stands.now codes.now }
     requires window { IsWindow codes.now.base codes.now.shift range window.first window.last window.beyond }
     requires known { KnowRows arena.now.cells handles.now remembered.now stands.now }
-    requires all_known { IsFalse window.some_unknown → AreKnown remembered.now stands.now }
+    requires all_known { IsFalse window.some_unknown → KeysAreKnown remembered.now stands.now }
     ensures { MatchOption result
         (IsMissed range arena.now.cells handles.now stands.now from to)
         (λ spot. IsHit range arena.now.cells handles.now stands.now from to spot) }
@@ -288,7 +288,7 @@ pub(crate) fn hit_in_codes(
     requires coded { AreCoded remembered.now stands.now codes.now }
     requires window { IsWindow codes.now.base codes.now.shift range window.first window.last window.beyond }
     requires known { KnowRows arena.now.cells handles.now remembered.now stands.now }
-    requires all_known { IsFalse window.some_unknown → AreKnown remembered.now stands.now }
+    requires all_known { IsFalse window.some_unknown → KeysAreKnown remembered.now stands.now }
     ensures { MatchOption result
         (IsMissed range arena.now.cells handles.now stands.now from (length codes.now.codes))
         (λ spot. IsHit range arena.now.cells handles.now stands.now from (length codes.now.codes) spot) }

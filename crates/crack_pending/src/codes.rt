@@ -1,7 +1,7 @@
 //! A 16-bit code for each key. A pass over codes reads a quarter of what a pass over keys would read.
 ghost use Rattle.std.specs.Prelude.{◌≡◌, ◌+◌, ◌<◌, ◌≤◌, [], length, take, vec_capacity, slice_set};
 ghost use Rattle.crack_pending.specs.Ahead.{IsNext};
-ghost use Rattle.crack_pending.specs.Codes.{AreCoded, code_of};
+ghost use Rattle.crack_pending.specs.Codes.{AreCoded, key_code};
 
 use crate::ahead::Ahead;
 use crack_arena::{Arena, Handle, Remembered, UNKNOWN_KEY};
@@ -35,7 +35,7 @@ impl Scale {
     /// The code of a key.
     fn code(self, key: StoredKey) -> u16
         requires { self.shift < 64 }
-        ensures { result ≡ code_of self.base self.shift key }
+        ensures { result ≡ key_code self.base self.shift key }
     {
         (key.saturating_sub(self.base) >> self.shift).min(GREATEST_CODE) as u16
     }
@@ -90,7 +90,7 @@ impl Codes {
 
     /// The code of a key.
     pub(crate) fn code(&self, key: StoredKey) -> u16
-        ensures { result ≡ code_of self.now.base self.now.shift key }
+        ensures { result ≡ key_code self.now.base self.now.shift key }
     {
         self.scale.code(key)
     }
@@ -124,7 +124,7 @@ impl Codes {
     /// Codes the row at the spot anew, since its key has changed.
     pub(crate) fn recode(&mut self, spot: usize, key: StoredKey)
         ensures { self.new ≡ record self.old {
-          codes = slice_set self.old.codes spot (code_of self.old.base
+          codes = slice_set self.old.codes spot (key_code self.old.base
               self.old.shift key);
         } }
     {

@@ -63,7 +63,7 @@ impl<Kind> Model for PendingList<Kind> {
     ghost use Rattle.crack_arena.specs.Rows.{unknown};
     ghost use Rattle.crack_pending.specs.Pending.{Pending};
     ghost use Rattle.crack_pending.specs.Codes.{AreCoded};
-    ghost use Rattle.crack_pending.specs.Keeps.{AreKept, AreMembers, keys_of};
+    ghost use Rattle.crack_pending.specs.Keeps.{IsSoundList, AreMembers, keys_of};
     ghost use Rattle.crack_pending.specs.Spots.{kept, spot_room};
 
     ghost Value = { Pending };
@@ -77,7 +77,7 @@ impl<Kind> Model for PendingList<Kind> {
     } };
 
     ghost invariant = { λ p.
-        AreKept p.handles.items p.remembered.items p.stands.items p.spots.items p.rows p.noted p.hint_place p.hint_spot
+        IsSoundList p.handles.items p.remembered.items p.stands.items p.spots.items p.rows p.noted p.hint_place p.hint_spot
         × (p.unknowns ≡ times unknown (keys_of (kept p.stands.items p.remembered.items)))
         × AreCoded p.remembered.items p.stands.items p.codes
         × AreMembers p.members (kept p.stands.items p.handles.items) (length p.spots.items) };

@@ -4,7 +4,7 @@ ghost use Rattle.std.specs.Bool.{OnFalse};
 ghost use Rattle.crack_arena.specs.Rows.{unknown};
 ghost use Rattle.crack_arena.specs.Memories.{nothing};
 ghost use Rattle.crack_pending.specs.Codes.{AreCoded};
-ghost use Rattle.crack_pending.specs.Inside.{Lies, AreKnown, IsMissed, IsHit, KnowRows};
+ghost use Rattle.crack_pending.specs.Inside.{Lies, KeysAreKnown, IsMissed, IsHit, KnowRows};
 
 use crate::code_pass::{Window, hit_in_codes, is_hit};
 use crate::codes::{Codes, StoredKey};
@@ -105,7 +105,7 @@ fn hit_in_block(
     requires stands { length stands.now ≡ length handles.now }
     requires within { from + 16 ≤ length handles.now }
     requires known { KnowRows arena.now.cells handles.now remembered.now stands.now }
-    requires all_known { IsFalse wanted.some_unknown → AreKnown remembered.now stands.now }
+    requires all_known { IsFalse wanted.some_unknown → KeysAreKnown remembered.now stands.now }
     requires low { range.low ≡ wanted.low }
     requires last { range.high ≡ wanted.last + 1 }
     requires order { wanted.low ≤ wanted.last }
@@ -141,7 +141,7 @@ fn hit_in_blocks(
     requires stands { length stands.now ≡ length handles.now }
     requires within { from ≤ length handles.now }
     requires known { KnowRows arena.now.cells handles.now remembered.now stands.now }
-    requires all_known { IsFalse wanted.some_unknown → AreKnown remembered.now stands.now }
+    requires all_known { IsFalse wanted.some_unknown → KeysAreKnown remembered.now stands.now }
     requires low { range.low ≡ wanted.low }
     requires last { range.high ≡ wanted.last + 1 }
     requires order { wanted.low ≤ wanted.last }
@@ -184,7 +184,7 @@ pub(crate) fn first_hit(
     requires within { from ≤ length handles.now }
     requires coded { AreCoded remembered.now stands.now codes.now }
     requires known { KnowRows arena.now.cells handles.now remembered.now stands.now }
-    requires all_known { IsFalse some_unknown → AreKnown remembered.now stands.now }
+    requires all_known { IsFalse some_unknown → KeysAreKnown remembered.now stands.now }
     ensures { MatchOption result
         (IsMissed range arena.now.cells handles.now stands.now from (length handles.now))
         (λ spot. IsHit range arena.now.cells handles.now stands.now from (length handles.now) spot) }
@@ -227,7 +227,7 @@ pub(crate) fn next_hit(
     requires within { from ≤ length handles.now }
     requires coded { AreCoded remembered.now stands.now codes.old }
     requires known { KnowRows arena.now.cells handles.now remembered.now stands.now }
-    requires all_known { IsFalse some_unknown → AreKnown remembered.now stands.now }
+    requires all_known { IsFalse some_unknown → KeysAreKnown remembered.now stands.now }
     ensures hit { MatchOption result
         (IsMissed range arena.now.cells handles.now stands.now from (length handles.now))
         (λ spot. IsHit range arena.now.cells handles.now stands.now from (length handles.now) spot) }

@@ -1,4 +1,5 @@
-//! Counts of rows at spots. The place of a row is the number of rows before it.
+//! Counts of rows at spots. A spot is an index into the lists, where there is a row or, after its removal, a hole.
+//! The place of a row is the number of rows before it.
 ghost use Rattle.std.specs.Prelude.{◌≡◌, ◌+◌, ◌<◌, ◌≤◌, ◌∷◌, [], length, false, slice_set, slice_index_or};
 ghost use Rattle.crack_arena.specs.Arena.{times};
 ghost use Rattle.crack_arena.specs.Rows.{unknown};
@@ -80,8 +81,8 @@ fn spot_from(stands: &[bool], before: usize, from: usize, place: usize) -> usize
     }
 }
 
-/// The spot of the row at the place. O(1) if there are no holes; otherwise rows are counted from the spot `from`,
-/// or from the first spot if the place is before `from`.
+/// The spot of the row at the place. There are `rows` rows. O(1) if there are no holes; otherwise rows are counted
+/// from the spot `from`, which has `before` rows before it, or from the first spot if the place is before `from`.
 pub(crate) fn spot_of(
     stands: &[bool],
     rows: usize,

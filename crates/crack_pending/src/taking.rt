@@ -3,7 +3,7 @@ ghost use Rattle.std.specs.Prelude.{◌≡◌, ◌+◌, ◌≤◌, ◌^◌, ◌+
 ghost use Rattle.crack_arena.specs.Arena.{times};
 ghost use Rattle.crack_arena.specs.Rows.{unknown};
 ghost use Rattle.crack_arena.specs.Memories.{Memory, Remembers};
-ghost use Rattle.crack_pending.specs.Ahead.{AreAhead};
+ghost use Rattle.crack_pending.specs.Ahead.{AreCandidates};
 ghost use Rattle.crack_pending.specs.Codes.{AreCoded, IsWindow};
 ghost use Rattle.crack_pending.specs.Inside.{IsMissed};
 ghost use Rattle.crack_pending.specs.Keeps.{place_at, HasRow, keys_of};
@@ -232,7 +232,7 @@ fn take_candidates(
         (kept stands.old.items remembered.now) }
     requires all_known { times unknown (keys_of (kept stands.old.items remembered.now)) ≡ 0 }
     requires window { IsWindow codes.old.base codes.old.shift range window.first window.last window.beyond }
-    requires ahead { AreAhead codes.old.codes window.first window.last from to candidates.now 0 }
+    requires ahead { AreCandidates codes.old.codes window.first window.last from to candidates.now 0 }
     requires missed { IsMissed range arena.now.cells handles.now stands.old.items 0 from }
     requires room { vec_len taken.old + length (rows_inside arena.now.cells range (kept stands.old.items handles.now))
         ≤ vec_capacity taken.old }

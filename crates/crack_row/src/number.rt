@@ -133,7 +133,7 @@ impl InnerBound {
         self.0
     }
 
-    /// The same bound as an end of a range.
+    /// The bound as an end of a range.
     #[inline]
     pub fn bound(self) -> Bound
         ensures { result.0 ≡ self.0 }

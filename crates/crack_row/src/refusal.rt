@@ -24,7 +24,7 @@ pub enum Refusal {
     /// The history has as many entries as its limit.
     #[error("refused 6 {length}")]
     HistoryFull { length: u64 },
-    /// A gate refused at each attempt of one call.
+    /// A gate, code of a program that is called before each command of a worker, refused it each time.
     #[error("refused 7")]
     GateGaveUp,
     /// An allocation was refused, or a thread couldn't be started.

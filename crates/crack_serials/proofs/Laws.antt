@@ -3,7 +3,7 @@ use Rattle.std.proofs.Common.{◌≡◌, ◌≢◌, ℕ, suc, ◌<◌, Bool, tru
 use Rattle.std.specs.Prelude.{if◌then◌else◌, nat_le, nat_lt}
 use Rattle.std.proofs.lemmas.Bool.{cases_eq, cases_lt, ne_eqb, eq-eqb, le-leb, lt-leb, lt-ltb, le-ltb}
 use Rattle.crack_arena.specs.Arena.{Handle}
-use Rattle.crack_serials.specs.Serials.{Serials, map_of, handle_of, Maps, placed, room_for, UsesRoom, HasRoom}
+use Rattle.crack_serials.specs.Serials.{Serials, map_of, handle_of, Maps, with_serial, room_for, UsesRoom, HasRoom}
 use Rattle.crack_serials.proofs.ListLemmas.{Entries}
 
 -- an entry with another serial is passed over, if it is there
@@ -53,7 +53,7 @@ handle_of-fails test p (e ∷ es) fails = elim (cases_eq p e.0) [
 ]
 
 -- a serial that isn't in the map is found after it was put there, and every other as before
-pub Maps-placed : (serial : ℕ) (h : Handle) (es : Entries) → handle_of es serial ≡ None → Maps serial (Some h) es (placed serial h es)
+pub Maps-placed : (serial : ℕ) (h : Handle) (es : Entries) → handle_of es serial ≡ None → Maps serial (Some h) es (with_serial serial h es)
 Maps-placed serial h es fresh p =
     let i = map_of serial in
     let first = filter (λ (e : ℕ × Handle). nat_le (map_of e.0) i) es in

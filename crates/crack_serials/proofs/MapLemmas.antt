@@ -7,9 +7,9 @@ use Rattle.std.proofs.lemmas.List.{get_or-set_same, get_or-set_other, map-set, s
 use Rattle.std.proofs.lemmas.List.Elements.{All-nil, All-cons, All-head, All-tail, All-take, All-set, All-get_or}
 use Rattle.indexmap.specs.IndexMap.{IndexMap, spare, insert_entry, set_value_at}
 use Rattle.crack_arena.specs.Arena.{Handle}
-use Rattle.crack_serials.specs.Serials.{map_of, handle_of, Maps, sharing, placed}
-use Rattle.crack_serials.specs.Keeps.{lists_of, IsSpread, KeepsLists, AreMade}
-use Rattle.crack_serials.specs.Views.{rooms_of, entries_of}
+use Rattle.crack_serials.specs.Serials.{map_of, handle_of, Maps, sharing, with_serial}
+use Rattle.crack_serials.specs.Keeps.{map_lists, IsSpread, KeepsLists, AreMade}
+use Rattle.crack_serials.specs.Views.{rooms_of, entries_in_maps}
 use Rattle.crack_serials.proofs.ListLemmas.{Entries, joined, IsOf, sharing-joined, handle_of-joined, AreOwn-set, length-joined_set, Maps-joined_set}
 use Rattle.crack_serials.proofs.PlaceLemmas.{placed-joined}
 
@@ -56,14 +56,14 @@ all_there count i some counts few = elim counts [ inl none ↦ absurd (omega (ar
 
 module _ {S : Type 0} where
   -- the entries of all maps are those of their lists
-  pub entries-joined : (maps : List (IndexMap ℕ Handle S)) → entries_of maps ≡ joined (lists_of maps)
+  pub entries-joined : (maps : List (IndexMap ℕ Handle S)) → entries_in_maps maps ≡ joined (map_lists maps)
   entries-joined [] = refl
   entries-joined (m ∷ maps) = ap (λ es. m.entries ++ es) (entries-joined maps)
 
-  lists-set : (maps : List (IndexMap ℕ Handle S)) (i : ℕ) (m : IndexMap ℕ Handle S) → lists_of (set maps i m) ≡ set (lists_of maps) i m.entries
+  lists-set : (maps : List (IndexMap ℕ Handle S)) (i : ℕ) (m : IndexMap ℕ Handle S) → map_lists (set maps i m) ≡ set (map_lists maps) i m.entries
   lists-set maps i m = map-set (λ (n : IndexMap ℕ Handle S). n.entries) maps i m
 
-  length-lists : (maps : List (IndexMap ℕ Handle S)) → length (lists_of maps) ≡ length maps
+  length-lists : (maps : List (IndexMap ℕ Handle S)) → length (map_lists maps) ≡ length maps
   length-lists maps = length-map maps (λ (n : IndexMap ℕ Handle S). n.entries)
 
   -- the map with a number
@@ -71,7 +71,7 @@ module _ {S : Type 0} where
     pub within : i < length maps
     pub is : m ≡ get_or maps i m
 
-  pub list_at : (maps : List (IndexMap ℕ Handle S)) (i : ℕ) (m : IndexMap ℕ Handle S) → IsMap maps i m → get_or (lists_of maps) i [] ≡ m.entries
+  pub list_at : (maps : List (IndexMap ℕ Handle S)) (i : ℕ) (m : IndexMap ℕ Handle S) → IsMap maps i m → get_or (map_lists maps) i [] ≡ m.entries
   list_at maps i m one = get_or-map (λ (n : IndexMap ℕ Handle S). n.entries) maps i m [] one.within ∙ ap (λ (n : IndexMap ℕ Handle S). n.entries) (sym one.is)
 
   pub room_at : (maps : List (IndexMap ℕ Handle S)) (i : ℕ) (m : IndexMap ℕ Handle S) → IsMap maps i m → get_or (rooms_of maps) i 0 ≡ spare m
@@ -82,32 +82,32 @@ module _ {S : Type 0} where
   own_at maps i m one spread = subst (All (IsOf i)) (list_at maps i m one) (spread.own i)
 
   -- it looks its serials up
-  pub handle_of-map : (maps : List (IndexMap ℕ Handle S)) (i serial : ℕ) (m : IndexMap ℕ Handle S) → i ≡ map_of serial → IsMap maps i m → IsSpread maps → handle_of (entries_of maps) serial ≡ handle_of m.entries serial
+  pub handle_of-map : (maps : List (IndexMap ℕ Handle S)) (i serial : ℕ) (m : IndexMap ℕ Handle S) → i ≡ map_of serial → IsMap maps i m → IsSpread maps → handle_of (entries_in_maps maps) serial ≡ handle_of m.entries serial
   handle_of-map maps i serial m at one spread =
-      ap (λ es. handle_of es serial) (entries-joined maps) ∙ handle_of-joined (lists_of maps) serial i at spread.own ∙ ap (λ es. handle_of es serial) (list_at maps i m one)
+      ap (λ es. handle_of es serial) (entries-joined maps) ∙ handle_of-joined (map_lists maps) serial i at spread.own ∙ ap (λ es. handle_of es serial) (list_at maps i m one)
 
-  pub sharing-map : (maps : List (IndexMap ℕ Handle S)) (i serial : ℕ) (m : IndexMap ℕ Handle S) → i ≡ map_of serial → IsMap maps i m → IsSpread maps → sharing serial (entries_of maps) ≡ m.entries
+  pub sharing-map : (maps : List (IndexMap ℕ Handle S)) (i serial : ℕ) (m : IndexMap ℕ Handle S) → i ≡ map_of serial → IsMap maps i m → IsSpread maps → sharing serial (entries_in_maps maps) ≡ m.entries
   sharing-map maps i serial m at one spread =
-      ap (sharing serial) (entries-joined maps) ∙ sharing-joined (lists_of maps) serial i at spread.own ∙ list_at maps i m one
+      ap (sharing serial) (entries-joined maps) ∙ sharing-joined (map_lists maps) serial i at spread.own ∙ list_at maps i m one
 
   -- one map is exchanged for another
   pub IsSpread-set : (maps : List (IndexMap ℕ Handle S)) (i : ℕ) (m : IndexMap ℕ Handle S) → i < length maps → IsSpread maps → All (IsOf i) m.entries → IsSpread (set maps i m)
   IsSpread-set maps i m within spread all = record {
     count = rw (length-set maps i m) spread.count;
-    own = rw (lists-set maps i m) (AreOwn-set (lists_of maps) i m.entries (omega (arith, within, length-lists maps)) spread.own all);
+    own = rw (lists-set maps i m) (AreOwn-set (map_lists maps) i m.entries (omega (arith, within, length-lists maps)) spread.own all);
   }
 
-  pub Maps-set : (maps : List (IndexMap ℕ Handle S)) (i serial : ℕ) (m after : IndexMap ℕ Handle S) (o : Option Handle) → i ≡ map_of serial → IsMap maps i m → IsSpread maps → All (IsOf i) after.entries → Maps serial o m.entries after.entries → Maps serial o (entries_of maps) (entries_of (set maps i after))
+  pub Maps-set : (maps : List (IndexMap ℕ Handle S)) (i serial : ℕ) (m after : IndexMap ℕ Handle S) (o : Option Handle) → i ≡ map_of serial → IsMap maps i m → IsSpread maps → All (IsOf i) after.entries → Maps serial o m.entries after.entries → Maps serial o (entries_in_maps maps) (entries_in_maps (set maps i after))
   Maps-set maps i serial m after o at one spread all maps_one =
-      rw (entries-joined maps, entries-joined (set maps i after), lists-set maps i after) (Maps-joined_set (lists_of maps) i serial after.entries o at (omega (arith, one.within, length-lists maps)) spread.own all (rw (list_at maps i m one) maps_one))
+      rw (entries-joined maps, entries-joined (set maps i after), lists-set maps i after) (Maps-joined_set (map_lists maps) i serial after.entries o at (omega (arith, one.within, length-lists maps)) spread.own all (rw (list_at maps i m one) maps_one))
 
-  pub length-set_map : (maps : List (IndexMap ℕ Handle S)) (i : ℕ) (m after : IndexMap ℕ Handle S) → IsMap maps i m → length (entries_of (set maps i after)) + length m.entries ≡ length (entries_of maps) + length after.entries
+  pub length-set_map : (maps : List (IndexMap ℕ Handle S)) (i : ℕ) (m after : IndexMap ℕ Handle S) → IsMap maps i m → length (entries_in_maps (set maps i after)) + length m.entries ≡ length (entries_in_maps maps) + length after.entries
   length-set_map maps i m after one =
-      rw (entries-joined maps, entries-joined (set maps i after), lists-set maps i after, ← list_at maps i m one) (length-joined_set (lists_of maps) i after.entries (omega (arith, one.within, length-lists maps)))
+      rw (entries-joined maps, entries-joined (set maps i after), lists-set maps i after, ← list_at maps i m one) (length-joined_set (map_lists maps) i after.entries (omega (arith, one.within, length-lists maps)))
 
-  pub placed-set : (maps : List (IndexMap ℕ Handle S)) (i serial : ℕ) (h : Handle) (m after : IndexMap ℕ Handle S) → i ≡ map_of serial → IsMap maps i m → IsSpread maps → after.entries ≡ m.entries ++ (serial, h) ∷ [] → entries_of (set maps i after) ≡ placed serial h (entries_of maps)
+  pub placed-set : (maps : List (IndexMap ℕ Handle S)) (i serial : ℕ) (h : Handle) (m after : IndexMap ℕ Handle S) → i ≡ map_of serial → IsMap maps i m → IsSpread maps → after.entries ≡ m.entries ++ (serial, h) ∷ [] → entries_in_maps (set maps i after) ≡ with_serial serial h (entries_in_maps maps)
   placed-set maps i serial h m after at one spread more =
-      rw (entries-joined maps, entries-joined (set maps i after), lists-set maps i after, more, ← list_at maps i m one) (placed-joined (lists_of maps) i serial h at (omega (arith, one.within, length-lists maps)) spread.own)
+      rw (entries-joined maps, entries-joined (set maps i after), lists-set maps i after, more, ← list_at maps i m one) (placed-joined (map_lists maps) i serial h at (omega (arith, one.within, length-lists maps)) spread.own)
 
   -- the rooms then
   pub rooms-set : (maps : List (IndexMap ℕ Handle S)) (i n used : ℕ) (m after : IndexMap ℕ Handle S) → IsMap maps i m → spare m ≤ spare after + used → get_or (rooms_of maps) n 0 ≤ get_or (rooms_of (set maps i after)) n 0 + (if nat_eq i n then used else 0)
@@ -124,14 +124,14 @@ module _ {S : Type 0} where
   map_from_room [] i spread few room = absurd (omega (arith, room))
   map_from_room (m ∷ maps) i spread few room = all_there (length (m ∷ maps)) i (omega arith) spread.count few
 
-  pub map_from_entry : (maps : List (IndexMap ℕ Handle S)) (i serial at : ℕ) (e : ℕ × Handle) → IsSpread maps → i < 64 → slice_get (sharing serial (entries_of maps)) at ≡ Some e → i < length maps
+  pub map_from_entry : (maps : List (IndexMap ℕ Handle S)) (i serial at : ℕ) (e : ℕ × Handle) → IsSpread maps → i < 64 → slice_get (sharing serial (entries_in_maps maps)) at ≡ Some e → i < length maps
   map_from_entry [] i serial at e spread few found = absurd (cc)
   map_from_entry (m ∷ maps) i serial at e spread few found = all_there (length (m ∷ maps)) i (omega arith) spread.count few
 
   pub one_from_room : (maps : List (IndexMap ℕ Handle S)) (i serial : ℕ) (m : IndexMap ℕ Handle S) → i ≡ map_of serial → i < 64 → IsSpread maps → 0 < get_or (rooms_of maps) (map_of serial) 0 → m ≡ get_or maps i m → IsMap maps i m
   one_from_room maps i serial m at few spread room is = record { within = map_from_room maps i spread few (rw at room); is = is }
 
-  pub one_from_entry : (maps : List (IndexMap ℕ Handle S)) (i serial place : ℕ) (m : IndexMap ℕ Handle S) (e : ℕ × Handle) → i < 64 → IsSpread maps → slice_get (sharing serial (entries_of maps)) place ≡ Some e → m ≡ get_or maps i m → IsMap maps i m
+  pub one_from_entry : (maps : List (IndexMap ℕ Handle S)) (i serial place : ℕ) (m : IndexMap ℕ Handle S) (e : ℕ × Handle) → i < 64 → IsSpread maps → slice_get (sharing serial (entries_in_maps maps)) place ≡ Some e → m ≡ get_or maps i m → IsMap maps i m
   one_from_entry maps i serial place m e few spread found is = record { within = map_from_entry maps i serial place e spread few found; is = is }
 
   -- more room in one map
@@ -141,12 +141,12 @@ module _ {S : Type 0} where
 
   pub KeepsLists-set : (maps : List (IndexMap ℕ Handle S)) (i : ℕ) (m after : IndexMap ℕ Handle S) → IsMap maps i m → after.entries ≡ m.entries → spare m ≤ spare after → KeepsLists maps (set maps i after)
   KeepsLists-set maps i m after one same more = record {
-    same = rw (lists-set maps i after, same, ← list_at maps i m one) (set-get_or (lists_of maps) i []);
+    same = rw (lists-set maps i after, same, ← list_at maps i m one) (set-get_or (map_lists maps) i []);
     room = λ n. no_use (nat_eq i n) (get_or (rooms_of maps) n 0) (get_or (rooms_of (set maps i after)) n 0) (rooms-set maps i n 0 m after one (omega (arith, more)));
   }
 
   -- the entries are the same, and so are the maps
-  pub entries-kept : (maps after : List (IndexMap ℕ Handle S)) → KeepsLists maps after → entries_of after ≡ entries_of maps
+  pub entries-kept : (maps after : List (IndexMap ℕ Handle S)) → KeepsLists maps after → entries_in_maps after ≡ entries_in_maps maps
   entries-kept maps after kept = entries-joined after ∙ ap joined kept.same ∙ sym (entries-joined maps)
 
   pub length-kept : (maps after : List (IndexMap ℕ Handle S)) → KeepsLists maps after → length after ≡ length maps
@@ -159,7 +159,7 @@ module _ {S : Type 0} where
   }
 
   -- maps that were made are empty
-  pub entries-made : (maps : List (IndexMap ℕ Handle S)) (count : ℕ) → AreMade count maps → entries_of maps ≡ []
+  pub entries-made : (maps : List (IndexMap ℕ Handle S)) (count : ℕ) → AreMade count maps → entries_in_maps maps ≡ []
   entries-made maps count made = entries-joined maps ∙ ap joined made.empty ∙ joined-replicate count
 
   pub length-made : (maps : List (IndexMap ℕ Handle S)) (count : ℕ) → AreMade count maps → length maps ≡ count
@@ -183,6 +183,6 @@ module _ {S : Type 0} where
   IsSpread-either (Err e) maps made none = rw none IsSpread-none
 
   -- no maps have no entries
-  pub entries-none : (maps : List (IndexMap ℕ Handle S)) → length maps ≡ 0 → entries_of maps ≡ []
+  pub entries-none : (maps : List (IndexMap ℕ Handle S)) → length maps ≡ 0 → entries_in_maps maps ≡ []
   entries-none [] none = refl
   entries-none (m ∷ maps) none = absurd (omega (arith, none))

@@ -5,7 +5,7 @@ use Rattle.std.proofs.lemmas.Bool.{le-leb, lt-leb, lt-ltb, le-ltb}
 use Rattle.std.proofs.lemmas.List.{append-nil}
 use Rattle.std.proofs.lemmas.List.Elements.{All-weaker, filter-append}
 use Rattle.crack_arena.specs.Arena.{Handle}
-use Rattle.crack_serials.specs.Serials.{map_of, placed}
+use Rattle.crack_serials.specs.Serials.{map_of, with_serial}
 use Rattle.crack_serials.specs.Keeps.{AreOwn}
 use Rattle.crack_serials.proofs.ListLemmas.{Entries, joined, IsOf, OwnFrom, own_first, own_rest, own_all, from_first, filter-all, filter-none}
 
@@ -34,6 +34,6 @@ joined-placed k (suc n) i (es ∷ lists) e at within own =
     rw (filter-append (up_to i) es (joined lists), filter-append (after i) es (joined lists), mine, none, rest) (sym (append_assoc es (filter (up_to i) (joined lists)) (e ∷ filter (after i) (joined lists))))
 
 -- an entry that is put behind those of its map
-pub placed-joined : (lists : List Entries) (i serial : ℕ) (h : Handle) → i ≡ map_of serial → i < length lists → AreOwn lists → joined (set lists i (get_or lists i [] ++ (serial, h) ∷ [])) ≡ placed serial h (joined lists)
+pub placed-joined : (lists : List Entries) (i serial : ℕ) (h : Handle) → i ≡ map_of serial → i < length lists → AreOwn lists → joined (set lists i (get_or lists i [] ++ (serial, h) ∷ [])) ≡ with_serial serial h (joined lists)
 placed-joined lists i serial h at within own =
     ap (λ m. joined (set lists i (get_or lists i [] ++ (serial, h) ∷ []))) at ∙ rw (← at) (joined-placed 0 i i lists (serial, h) (omega arith) within (own_all lists own))

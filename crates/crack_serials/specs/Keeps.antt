@@ -9,8 +9,8 @@ use Rattle.crack_serials.specs.Views.{rooms_of}
 
 module _ {S : Type 0} where
   -- the entries of each map
-  abbrev pub lists_of : List (IndexMap ℕ Handle S) → List (List (ℕ × Handle))
-  lists_of maps = map (λ (m : IndexMap ℕ Handle S). m.entries) maps
+  abbrev pub map_lists : List (IndexMap ℕ Handle S) → List (List (ℕ × Handle))
+  map_lists maps = map (λ (m : IndexMap ℕ Handle S). m.entries) maps
 
 -- each map has only serials of its own
 abbrev pub AreOwn : List (List (ℕ × Handle)) → Type 0
@@ -19,17 +19,17 @@ AreOwn lists = (n : ℕ) → All (λ (e : ℕ × Handle). map_of e.0 ≡ n) (sli
 -- there are no maps yet, or all 64, and each has only serials of its own
 pub record IsSpread {S : Type 0} (maps : List (IndexMap ℕ Handle S)) : Type 0 where
   pub count : (length maps ≡ 0) ⊎ (length maps ≡ 64)
-  pub own : AreOwn (lists_of maps)
+  pub own : AreOwn (map_lists maps)
 
 module _ {S : Type 0} where
   -- the second maps have the entries of the first, and no less room
   pub record KeepsLists (maps after : List (IndexMap ℕ Handle S)) : Type 0 where
-    pub same : lists_of after ≡ lists_of maps
+    pub same : map_lists after ≡ map_lists maps
     pub room : (n : ℕ) → slice_index_or (rooms_of maps) n 0 ≤ slice_index_or (rooms_of after) n 0
 
   -- so many maps, all empty and with room for 32 entries
   pub record AreMade (count : ℕ) (maps : List (IndexMap ℕ Handle S)) : Type 0 where
-    pub empty : lists_of maps ≡ replicate count []
+    pub empty : map_lists maps ≡ replicate count []
     pub room : (n : ℕ) → n < count → 32 ≤ slice_index_or (rooms_of maps) n 0
 
 -- the first maps have room for their shares of consecutive serials

@@ -27,8 +27,8 @@ abbrev pub sharing : ℕ → List (ℕ × Handle) → List (ℕ × Handle)
 sharing serial entries = filter (λ (e : ℕ × Handle). nat_eq (map_of e.0) (map_of serial)) entries
 
 -- the entries with one more, which is the last of its map
-abbrev pub placed : ℕ → Handle → List (ℕ × Handle) → List (ℕ × Handle)
-placed serial h entries =
+abbrev pub with_serial : ℕ → Handle → List (ℕ × Handle) → List (ℕ × Handle)
+with_serial serial h entries =
     filter (λ (e : ℕ × Handle). nat_le (map_of e.0) (map_of serial)) entries ++ (serial, h) ∷ filter (λ (e : ℕ × Handle). nat_lt (map_of serial) (map_of e.0)) entries
 
 -- the serial, its handle and the index `at` of its entry in its map are right

@@ -6,8 +6,8 @@ use Rattle.crack_arena.specs.Arena.{Handle}
 
 module _ {S : Type 0} where
   -- the entries of all maps
-  abbrev pub entries_of : List (IndexMap ℕ Handle S) → List (ℕ × Handle)
-  entries_of maps = flat_map (λ (m : IndexMap ℕ Handle S). m.entries) maps
+  abbrev pub entries_in_maps : List (IndexMap ℕ Handle S) → List (ℕ × Handle)
+  entries_in_maps maps = flat_map (λ (m : IndexMap ℕ Handle S). m.entries) maps
 
   -- the room of each map
   abbrev pub rooms_of : List (IndexMap ℕ Handle S) → List ℕ

@@ -3,7 +3,7 @@ ghost use Rattle.std.specs.Prelude.{◌≡◌, ◌+◌, ◌-◌, ◌<◌, ◌≤
 ghost use Rattle.std.specs.Prelude.{IsSome, slice_index_or, IfSome, IfOk, IfErr, OnOk, OnErr, IsOk};
 ghost use Rattle.std.specs.Option.{option_map};
 ghost use Rattle.crack_row.specs.declared.refusal.Refusal.TheVariants.{OutOfMemory};
-ghost use Rattle.crack_serials.specs.Serials.{handle_of, Maps, placed, IsLead, room_for, KeepsRoom, UsesRoom, HasRoom};
+ghost use Rattle.crack_serials.specs.Serials.{handle_of, Maps, with_serial, IsLead, room_for, KeepsRoom, UsesRoom, HasRoom};
 ghost use Rattle.crack_serials.specs.Keeps.{AreMade, KeepsLists, HaveShares};
 ghost use Rattle.crack_serials.specs.Views.{rooms_of};
 
@@ -32,11 +32,11 @@ pub struct Serials {
 impl Model for Serials {
     ghost use Rattle.crack_serials.specs.Serials.{Serials as Entries};
     ghost use Rattle.crack_serials.specs.Keeps.{IsSpread};
-    ghost use Rattle.crack_serials.specs.Views.{entries_of, rooms_of};
+    ghost use Rattle.crack_serials.specs.Views.{entries_in_maps, rooms_of};
 
     ghost Value = { Entries };
 
-    ghost view = { λ s. record { entries = entries_of s.maps.items; room = rooms_of s.maps.items } };
+    ghost view = { λ s. record { entries = entries_in_maps s.maps.items; room = rooms_of s.maps.items } };
 
     ghost invariant = { λ s. IsSpread s.maps.items };
 }
@@ -166,7 +166,7 @@ impl Serials {
         ensures old { IfOk result (λ old. old ≡ handle_of self.old.entries serial.0) }
         ensures updates { OnOk result (Maps serial.0 (Some handle) self.old.entries self.new.entries) }
         ensures entries { OnOk result (handle_of self.old.entries serial.0 ≡ None
-            → self.new.entries ≡ placed serial.0 handle self.old.entries) }
+            → self.new.entries ≡ with_serial serial.0 handle self.old.entries) }
         ensures len { IfOk result (λ old. length self.new.entries
             ≡ length self.old.entries + (if is_some old then 0 else 1)) }
         ensures same { OnErr result (self.new.entries ≡ self.old.entries) }
@@ -185,7 +185,7 @@ impl Serials {
         ensures old { result ≡ handle_of self.old.entries serial.0 }
         ensures updates { Maps serial.0 (Some handle) self.old.entries self.new.entries }
         ensures entries { handle_of self.old.entries serial.0 ≡ None
-            → self.new.entries ≡ placed serial.0 handle self.old.entries }
+            → self.new.entries ≡ with_serial serial.0 handle self.old.entries }
         ensures len { length self.new.entries ≡ length self.old.entries + (if is_some result then 0 else 1) }
         ensures room { UsesRoom serial.0 self.old self.new }
     {

@@ -79,7 +79,7 @@ pub(crate) fn serve<
     )
 }
 
-/// Runs a server over a table, once the table's book has its name `J`.
+/// Names the table's book `J`, opens the table, and runs a server over it.
 fn serve_named<
     J: Naming + Send + Sync,
     H: Threads + Wait + Net + Sync,

@@ -21,7 +21,7 @@ use Rattle.crack_session.specs.Answers.{answer_text}
 use Rattle.crack_session.specs.Calls.{Call, AreAnswersOf}
 use Rattle.crack_session.specs.Feeding.{SessionState, IsLeftOf, Feeds, fed, unfinished, ended_by_any, all_noted}
 use Rattle.crack_session.specs.Readings.{statements, until_last, is_last}
-use Rattle.crack_session.specs.Rounds.{Begins}
+use Rattle.crack_session.specs.Rounds.{IsNewSession}
 use Rattle.crack_session.specs.Serving.{AreAllAnswered, IsServed, IsCutOff}
 use Rattle.crack_session.specs.Sessions.{AreAnswers, first_short, whole_lines}
 use Rattle.crack_session.specs.Turns.{fed_by, IsSentFirst, StopsAs}
@@ -48,7 +48,7 @@ module _ {D : Type 0} (bounds : D → Bounds) (splits : D → List Bound) (table
     pub feeds : Feeds bounds splits tables leads s0 first d0 d [] texts s
     pub few : length first ≤ 2 ^ 64 - 1
 
-  module _ (begins : Begins s0) (all first later : List ℕ) (s : SessionState) (d : D) (texts : List ℕ) (f : Fed all first later s d texts) where
+  module _ (begins : IsNewSession s0) (all first later : List ℕ) (s : SessionState) (d : D) (texts : List ℕ) (f : Fed all first later s d texts) where
     from_none : fed s0.begun first ≡ fed [] first
     from_none = ap (λ b. fed b first) begins.begun
 
@@ -183,7 +183,7 @@ module _ {D : Type 0} (bounds : D → Bounds) (splits : D → List Bound) (table
         )
 
     -- it has ended
-    pub served : (begins : Begins s0) (t : SessionState) (e : D) (known out : Option (List ℕ)) (texts : List ℕ) (how : How) (l : Left t e known texts) → Appends out0 out texts → t.unwritten ≡ [] → (statements l.of.all ≡ fed_from_none l.first) × (how ≡ cond (list_any is_last (statements l.of.all)) Quit InputEnded)
+    pub served : (begins : IsNewSession s0) (t : SessionState) (e : D) (known out : Option (List ℕ)) (texts : List ℕ) (how : How) (l : Left t e known texts) → Appends out0 out texts → t.unwritten ≡ [] → (statements l.of.all ≡ fed_from_none l.first) × (how ≡ cond (list_any is_last (statements l.of.all)) Quit InputEnded)
         → IsServed bounds splits tables leads s0.progress.policy d0 e known0 out0 out (record { how = how; statements = t.progress.statements; first_short = t.progress.first_short })
     served begins t e known out texts how l sent written ends =
         let whole : concat (map answer_text l.fed.feeds.answered.answers) ≡ texts = texts_are begins l.of.all l.first l.later t e texts l.fed ∙ ap (λ u. texts ++ u) written ∙ append-nil texts in
@@ -199,7 +199,7 @@ module _ {D : Type 0} (bounds : D → Bounds) (splits : D → List Bound) (table
         }
 
     -- or was cut off
-    pub cut : (begins : Begins s0) (t : SessionState) (e : D) (known out : Option (List ℕ)) (texts : List ℕ) (refusal : Refusal) (l : Left t e known texts) (sent unsent : List ℕ) → Appends out0 out sent → texts ≡ sent ++ unsent → length unsent ≤ OUTPUT_BYTES → (refusal ≡ ReadFault → (l.first ≡ l.used) × (unsent ≡ []) × (t.unwritten ≡ []))
+    pub cut : (begins : IsNewSession s0) (t : SessionState) (e : D) (known out : Option (List ℕ)) (texts : List ℕ) (refusal : Refusal) (l : Left t e known texts) (sent unsent : List ℕ) → Appends out0 out sent → texts ≡ sent ++ unsent → length unsent ≤ OUTPUT_BYTES → (refusal ≡ ReadFault → (l.first ≡ l.used) × (unsent ≡ []) × (t.unwritten ≡ []))
         → IsCutOff bounds splits tables leads s0.progress.policy d0 e known0 known out0 out (record { refusal = refusal; done = t.progress.statements; first_short = t.progress.first_short })
     cut begins t e known out texts refusal l sent unsent wrote parts few read =
         let first = first_of_all begins l.of.all l.first l.later t e texts l.fed in

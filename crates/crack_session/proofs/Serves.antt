@@ -13,7 +13,7 @@ use Rattle.crack_session.specs.declared.session.How.{How}
 use Rattle.crack_session.specs.declared.session.How.TheVariants.{Quit, InputEnded}
 use Rattle.crack_session.specs.Calls.{Call}
 use Rattle.crack_session.specs.Feeding.{SessionState}
-use Rattle.crack_session.specs.Rounds.{Begins}
+use Rattle.crack_session.specs.Rounds.{IsNewSession}
 use Rattle.crack_session.specs.Serving.{IsServed, IsCutOff, IsCause}
 use Rattle.crack_session.specs.Turns.{fed_by, Sends, StopsAs, ReadsOnce, IsTurn}
 use Rattle.crack_session.proofs.Turns.{IsSentFirst-then}
@@ -63,7 +63,7 @@ module _ {D R W : Type 0} (bounds : D → Bounds) (splits : D → List Bound) (t
       let least = running.least in
       inr (refl, inr (all_made first now k 1000000000 made all (omega arith), as_long known0 known running.bytes 1000000000 running.consumed (omega (arith, least, all))))
 
-  pub served-turn : (begins : Begins s0) (s t : SessionState) (how : How) (d e : D) (r r' : Watched R) (w w' : Watched W) (k : ℕ) → Running bounds splits tables leads s0 d0 known0 out0 s d (remaining (device r)) (contents (device w)) k → k < 1000000000 → IsTurn bounds splits tables leads remaining contents s (Ok (Some how)) d e r r' w w' t
+  pub served-turn : (begins : IsNewSession s0) (s t : SessionState) (how : How) (d e : D) (r r' : Watched R) (w w' : Watched W) (k : ℕ) → Running bounds splits tables leads s0 d0 known0 out0 s d (remaining (device r)) (contents (device w)) k → k < 1000000000 → IsTurn bounds splits tables leads remaining contents s (Ok (Some how)) d e r r' w w' t
       → IsServed bounds splits tables leads s0.progress.policy d0 e known0 out0 (contents (device w')) (record { how = how; statements = t.progress.statements; first_short = t.progress.first_short })
   served-turn begins s t Quit d e r r' w w' k running below turn =
       let x = turn_ok s t (Some Quit) d e r r' w w' turn in
@@ -81,13 +81,13 @@ module _ {D R W : Type 0} (bounds : D → Bounds) (splits : D → List Bound) (t
       served bounds splits tables leads s0 d0 known0 out0 begins t e _ _ _ InputEnded l.0 (Appends-trans _ _ _ running.texts x.2.texts running.sent x.2.sent) x.2.stops.1 (over.0, ap (λ (b : Bool). cond b Quit InputEnded) (sym over.1))
 
   -- no more is read, or a read fails
-  pub cut-before : (begins : Begins s0) (s : SessionState) (d : D) (known known' out : Option (List ℕ)) (k : ℕ) (refusal : Refusal) → Running bounds splits tables leads s0 d0 known0 out0 s d known out k → k ≤ 1000000000 → Keeps known known'
+  pub cut-before : (begins : IsNewSession s0) (s : SessionState) (d : D) (known known' out : Option (List ℕ)) (k : ℕ) (refusal : Refusal) → Running bounds splits tables leads s0 d0 known0 out0 s d known out k → k ≤ 1000000000 → Keeps known known'
       → IsCutOff bounds splits tables leads s0.progress.policy d0 d known0 known' out0 out (record { refusal = refusal; done = s.progress.statements; first_short = s.progress.first_short })
   cut-before begins s d known known' out k refusal running few kept =
       let l = Left-before bounds splits tables leads s0 d0 known0 out0 s d known known' out k running few kept in
       cut bounds splits tables leads s0 d0 known0 out0 begins s d known' out running.texts refusal l.0 running.texts [] running.sent (sym (append-nil running.texts)) (omega arith) (λ is. (l.1, refl, running.wants))
 
-  pub cut-turn : (begins : Begins s0) (s t : SessionState) (refusal : Refusal) (d e : D) (r r' : Watched R) (w w' : Watched W) (k : ℕ) → Running bounds splits tables leads s0 d0 known0 out0 s d (remaining (device r)) (contents (device w)) k → k < 1000000000 → IsTurn bounds splits tables leads remaining contents s (Err refusal) d e r r' w w' t
+  pub cut-turn : (begins : IsNewSession s0) (s t : SessionState) (refusal : Refusal) (d e : D) (r r' : Watched R) (w w' : Watched W) (k : ℕ) → Running bounds splits tables leads s0 d0 known0 out0 s d (remaining (device r)) (contents (device w)) k → k < 1000000000 → IsTurn bounds splits tables leads remaining contents s (Err refusal) d e r r' w w' t
       → IsCutOff bounds splits tables leads s0.progress.policy d0 e known0 (remaining (device r')) out0 (contents (device w')) (record { refusal = refusal; done = t.progress.statements; first_short = t.progress.first_short })
   cut-turn begins s t refusal d e r r' w w' k running below turn = by_case turn.is
     where

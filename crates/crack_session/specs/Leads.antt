@@ -6,7 +6,7 @@ use Rattle.crack_store.specs.Inside.{IsLayoutOf}
 use Rattle.crack_part.specs.Parts.{Part, Serves, Spares}
 use Rattle.crack_core.specs.Cores.{CoreState}
 use Rattle.crack_core.specs.Routes.{keys_of_part}
-use Rattle.crack_core.specs.Steps.{Bounds, bounds_of, IsOutcome, IsLayoutOutcome, IsStatisticsOutcome, expected_statistics, IsFoldOutcome, tables_of, table_after, changed_at}
+use Rattle.crack_core.specs.Steps.{Bounds, bounds_from, IsOutcome, IsLayoutOutcome, IsStatisticsOutcome, expected_statistics, IsFoldOutcome, tables_of, table_after, changed_at}
 use Rattle.crack_core.specs.Jobs.{AtPart, IsFoldedAt}
 use Rattle.crack_session.specs.Calls.{Call, Asked, Checkpointed, Looked, Measured, Surveyed}
 
@@ -34,4 +34,4 @@ stores_lead old (Surveyed traffic) new = new ≡ old
 
 -- the effect of a call of a core, as a desk
 abbrev pub core_leads : CoreState → Call → CoreState → Type 0
-core_leads old call new = rows_lead (bounds_of old.limits) old.splits (tables_of old.parts) call (tables_of new.parts) × stores_lead old.parts call new.parts
+core_leads old call new = rows_lead (bounds_from old.limits) old.splits (tables_of old.parts) call (tables_of new.parts) × stores_lead old.parts call new.parts

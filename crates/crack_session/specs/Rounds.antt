@@ -27,7 +27,7 @@ has_stopped Full = false
 has_stopped _ = true
 
 -- The state of a new session.
-pub record Begins (s : SessionState) : Type 0 where
+pub record IsNewSession (s : SessionState) : Type 0 where
   pub statements_are : s.progress.statements ≡ 0
   pub short_is : s.progress.first_short ≡ None
   pub begun : s.begun ≡ []

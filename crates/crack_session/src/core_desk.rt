@@ -1,7 +1,7 @@
 //! `Desk` for a core, which executes commands as worker 0.
 ghost use Rattle.std.specs.Prelude.{◌≡◌, ◌+◌, is_ok, IfOk, OnOk, slice_get, if◌then◌else◌};
 ghost use Rattle.crack_plain.specs.Plain.{IsSmall, checkpointed};
-ghost use Rattle.crack_core.specs.Steps.{bounds_of, IsOutcomeAt, IsFoldOutcome, tables_of, tables_after, changed_at};
+ghost use Rattle.crack_core.specs.Steps.{bounds_from, IsOutcomeAt, IsFoldOutcome, tables_of, tables_after, changed_at};
 ghost use Rattle.crack_core.specs.Steps.{expected_fold, accepted_by};
 ghost use Rattle.crack_core.specs.Jobs.{IsFoldedAt};
 ghost use Rattle.crack_session.specs.Calls.{Asked, Checkpointed};
@@ -15,12 +15,12 @@ use crack_row::{Bound, Command, Layout, Policy, Refusal, Reply};
 
 impl Desk for Core {
     ghost use Rattle.std.specs.Prelude.{Some};
-    ghost use Rattle.crack_core.specs.Steps.{bounds_of, tables_of, accepted_by};
+    ghost use Rattle.crack_core.specs.Steps.{bounds_from, tables_of, accepted_by};
     ghost use Rattle.crack_session.specs.Leads.{core_leads};
 
     ghost tables = { λ c. Some (tables_of c.parts) };
 
-    ghost bounds = { λ c. bounds_of c.limits };
+    ghost bounds = { λ c. bounds_from c.limits };
 
     ghost splits = { λ c. c.splits };
 
@@ -30,9 +30,9 @@ impl Desk for Core {
 
     #[inline(always)]
     fn ask(&mut self, part: u32, command: Command, policy: Policy) -> Result<Reply, Refusal>
-        ensures outcome { IsOutcomeAt (bounds_of self.old.limits) self.old.splits (tables_of self.old.parts) part
+        ensures outcome { IsOutcomeAt (bounds_from self.old.limits) self.old.splits (tables_of self.old.parts) part
             command result }
-        ensures after { tables_of self.new.parts ≡ tables_after (bounds_of self.old.limits) (tables_of self.old.parts)
+        ensures after { tables_of self.new.parts ≡ tables_after (bounds_from self.old.limits) (tables_of self.old.parts)
             part command result }
         ensures small { IfOk result IsSmall }
         ensures opened { (self.new.splits ≡ self.old.splits) × (self.new.limits ≡ self.old.limits) }

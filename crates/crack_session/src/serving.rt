@@ -3,7 +3,7 @@ ghost use Rattle.std.specs.Prelude.{◌≡◌, ℕ, ◌+◌, ◌-◌, ◌^◌, �
 ghost use Rattle.std.specs.Io.KnownBytes.{Keeps};
 ghost use Rattle.crack_row.specs.Devices.{device, has_failed, reads_of};
 ghost use Rattle.crack_session.specs.Feeding.{SessionState, StoppedFor};
-ghost use Rattle.crack_session.specs.Rounds.{Begins, IsRound, has_stopped};
+ghost use Rattle.crack_session.specs.Rounds.{IsNewSession, IsRound, has_stopped};
 ghost use Rattle.crack_session.specs.Serving.{IsServed, IsCutOff, IsCause};
 ghost use Rattle.crack_session.specs.Turns.{Sends, ReadsOnce, IsTurn, StopsAs, fed_by};
 
@@ -76,7 +76,7 @@ fn serve_reads<D: Desk, R: Read, W: Write>(
     reader: &mut Watched<R>,
     writer: &mut Watched<W>,
 ) -> Result<How, Refusal>
-    requires begins { Begins session.old }
+    requires begins { IsNewSession session.old }
     ensures ends { IfOk result (λ how. IsServed D.bounds D.splits D.tables D.leads session.old.progress.policy desk.old
         desk.new (R.remaining (device reader.old)) (W.contents (device writer.old)) (W.contents (device writer.new))
         (record {

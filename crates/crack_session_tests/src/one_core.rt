@@ -4,7 +4,7 @@ ghost use Rattle.std.specs.Prelude.{◌≡◌, ◌++◌, ℕ, List, Some, IfOk, 
 ghost use Rattle.std.specs.List.{concat};
 ghost use Rattle.crack_row.specs.Devices.{device};
 ghost use Rattle.crack_plain.specs.Plain.{PlainView};
-ghost use Rattle.crack_core.specs.Steps.{bounds_of, tables_of};
+ghost use Rattle.crack_core.specs.Steps.{bounds_from, tables_of};
 ghost use Rattle.crack_session.specs.Answers.{answer_text};
 ghost use Rattle.crack_session.specs.Readings.{statements};
 ghost use Rattle.crack_session.specs.Sessions.{AreAnswers, first_short};
@@ -32,9 +32,9 @@ fn serve_both<R: Read, W: Write>(
         R.remaining (device first.old) ≡ Some bytes → R.remaining (device second.old) ≡ Some more →
         W.contents (device writer.old) ≡ Some out →
         (between : List PlainView) × (one : List Answer) × (other : List Answer)
-        × AreAnswers (bounds_of core.old.limits) core.old.splits (tables_of core.old.parts) (statements bytes) one
+        × AreAnswers (bounds_from core.old.limits) core.old.splits (tables_of core.old.parts) (statements bytes) one
         between
-        × AreAnswers (bounds_of core.old.limits) core.old.splits between (statements more) other
+        × AreAnswers (bounds_from core.old.limits) core.old.splits between (statements more) other
         (tables_of core.new.parts)
         × (ends.0.first_short ≡ first_short one) × (ends.1.first_short ≡ first_short other)
         × (W.contents (device writer.new) ≡
@@ -60,10 +60,10 @@ fn serve_and_export<R: Read, W: Write>(
     ensures { IfOk result (λ told. (bytes out : List ℕ) →
         R.remaining (device reader.old) ≡ Some bytes → W.contents (device writer.old) ≡ Some out →
         (between : List PlainView) × (answers : List Answer)
-        × AreAnswers (bounds_of core.old.limits) core.old.splits (tables_of core.old.parts) (statements bytes) answers
+        × AreAnswers (bounds_from core.old.limits) core.old.splits (tables_of core.old.parts) (statements bytes) answers
         between
         × (told.0.first_short ≡ first_short answers)
-        × IsExported (bounds_of core.old.limits) core.old.splits between told.1 (Some (tables_of core.new.parts))
+        × IsExported (bounds_from core.old.limits) core.old.splits between told.1 (Some (tables_of core.new.parts))
         (Some (out ++ concat (map answer_text answers))) (W.contents (device writer.new))) }
 {
     match serve(alloc, core, Policy::Ripple, reader, writer) {

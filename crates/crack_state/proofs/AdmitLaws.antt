@@ -15,10 +15,11 @@ use Rattle.crack_row.specs.declared.Row.{Row}
 use Rattle.crack_arena.specs.declared.TheConstants.{MOST_CELLS}
 use Rattle.crack_arena.specs.Arena.{Cell, Handle, times, read, cell_at, empty_cell, handle_for, cells_with, slots}
 use Rattle.crack_arena.proofs.Times.{times-nil, times-cons, times_one, times_head, times-append, times-map-append, times_map_at}
-use Rattle.crack_state.specs.State.{State, Reads, IsOwned, IsIntact, IsKeyed, handle_of, freed_of, live_at, live_rows}
+use Rattle.crack_serials.proofs.Laws.{Maps-placed}
+use Rattle.crack_state.specs.State.{State, Reads, IsOwned, IsIntact, IsKeyed, freed_of, live_at, live_rows}
 use Rattle.crack_state.proofs.Words.{IsLiveAt, is_live, AreEmpty, HaveKeysIn}
 use Rattle.crack_state.specs.Steps.{next_handle, admitted, IsAdmissible}
-use Rattle.crack_state.specs.Points.{Maps}
+use Rattle.crack_serials.specs.Serials.{handle_of, Maps}
 use Rattle.crack_state.proofs.OwnedLaws.{places_of, times-places, once-most, once-within}
 use Rattle.crack_state.proofs.CellLaws.{AgreeOff, handle_same, read-off, Reads-off, keys-off, read-value}
 use Rattle.crack_state.proofs.LiveLaws.{filter_map-less, times-range}
@@ -99,25 +100,6 @@ once_filled s r (m ∷ ns) is owned n =
 pub vacant : (s : State) (free : List ℕ) → s.free ≡ free → AreEmpty s.cells s.free → (cell_at s.cells (handle_for s.cells free).slot).value ≡ None
 vacant s [] is empty = ap (λ (c : Cell Row). c.value) (get_or_past s.cells (length s.cells) empty_cell (omega arith))
 vacant s (n ∷ ns) is empty = All-head (λ m. (cell_at s.cells m).value ≡ None) n ns (rw is at empty)
-
--- a serial that is put after the others is found, and every other as before
-pub handle_of-push : (serials : List (ℕ × Handle)) (serial : ℕ) (h : Handle) → handle_of serials serial ≡ None → (p : ℕ) → handle_of (serials ++ (serial, h) ∷ []) p ≡ cond (serial == p) (Some h) (handle_of serials p)
-handle_of-push [] serial h fresh p = elim (cases_eq serial p) [
-  | inl e ↦ rw (eq-eqb serial p e, eq-eqb p serial (sym e)) refl
-  | inr ne ↦ rw (ne_eqb serial p ne, ne_eqb p serial (λ e. ne (sym e))) refl
-]
-handle_of-push (e ∷ es) serial h fresh p = elim (cases_eq serial e.0) [
-  | inl same ↦ let found : handle_of (e ∷ es) serial ≡ Some e.1 = rw (eq-eqb serial e.0 same) refl in absurd (cc)
-  | inr apart ↦
-      let rest : handle_of es serial ≡ None = rw (ne_eqb serial e.0 apart) at fresh in
-      let later = handle_of-push es serial h rest p in
-      elim (cases_eq p e.0) [
-        | inl here ↦
-            let other : serial ≢ p = λ same. apart (same ∙ here) in
-            rw (eq-eqb p e.0 here, ne_eqb serial p other) refl
-        | inr away ↦ rw (ne_eqb p e.0 away) later
-      ]
-]
 
 -- a row is admitted: an empty cell gets it, and its serial leads there
 pub IsKeyed-more : (cells after : List (Cell Row)) (doomed : List ℕ) (serials later : List (ℕ × Handle)) (h : Handle) (row : Row) → Filled cells after h row → times h.slot doomed ≡ 0 → (cell_at cells h.slot).value ≡ None → handle_of serials row.serial.0 ≡ None → Maps row.serial.0 (Some h) serials later → IsKeyed cells doomed serials → IsKeyed after doomed later
@@ -207,7 +189,7 @@ IsIntact-grown row s t same maps may intact =
     })
 
 pub IsIntact-admitted : (row : Row) (s : State) → IsAdmissible row s → IsIntact s [] → IsIntact (admitted row s) []
-IsIntact-admitted row s may intact = IsIntact-grown row s (admitted row s) refl (handle_of-push s.serials row.serial.0 (next_handle s) may.fresh) may intact
+IsIntact-admitted row s may intact = IsIntact-grown row s (admitted row s) refl (Maps-placed row.serial.0 (next_handle s) s.serials may.fresh) may intact
 
 -- commands also see the admitted row
 pub live_rows-admitted : (row : Row) (s : State) → IsIntact s [] → IsPermutation (row ∷ live_rows s) (live_rows (admitted row s))

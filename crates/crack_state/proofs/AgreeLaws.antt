@@ -5,7 +5,7 @@ use Rattle.std.proofs.lemmas.Bool.{cases_Bool}
 use Rattle.std.proofs.lemmas.List.Elements.{All-head, All-tail, All-push, All-take, All-drop}
 use Rattle.crack_index.specs.declared.mark.Mark.{Mark}
 use Rattle.crack_state.specs.Pieces.{Pieces, last, below, cut}
-use Rattle.crack_state.specs.Queues.{Event, comes, turns, stopped, is_below, any_row, after, next}
+use Rattle.crack_state.specs.Queues.{Event, comes, turns, stopped, is_below, any_row, after_event, next}
 use Rattle.crack_state.proofs.OneByOne.{reached, outcome, one_at_a_time, outcomes}
 
 module _ {X : Type 0} where
@@ -25,7 +25,7 @@ module _ {X : Type 0} where
   Each-cut P place (m ∷ ms) rows all = (All-take P _ rows all, Each-cut P m.position ms _ (All-drop P _ rows all))
 
 module _ {X : Type 0} (key : X → ℕ) (stops : X → Bool) (P : X → Type 0) where
-  All-after : (own : X → Bool) (e : Event X) (rows : List X) → OfComing P e → All P rows → All P (after key stops own e rows)
+  All-after : (own : X → Bool) (e : Event X) (rows : List X) → OfComing P e → All P rows → All P (after_event key stops own e rows)
   All-after own (comes x) rows one all = elim (cases_Bool (own x)) [
     | inl is ↦ rw is (All-push P rows x all one)
     | inr not ↦ rw not all
@@ -60,7 +60,7 @@ module _ {X : Type 0} (key key' : X → ℕ) (stops stops' : X → Bool) where
     pub keys : key x ≡ key' x
     pub ends : stops x ≡ stops' x
 
-  after-agree : (own own' : X → Bool) (e : Event X) (rows : List X) → OfComing (λ x. own x ≡ own' x) e → All Agrees rows → after key stops own e rows ≡ after key' stops' own' e rows
+  after-agree : (own own' : X → Bool) (e : Event X) (rows : List X) → OfComing (λ x. own x ≡ own' x) e → All Agrees rows → after_event key stops own e rows ≡ after_event key' stops' own' e rows
   after-agree own own' (comes x) rows same all = rw same refl
   after-agree own own' (turns moved) [] same all = refl
   after-agree own own' (turns moved) (y ∷ ys) same all = rw (All-head Agrees y ys all).ends refl

@@ -18,7 +18,7 @@ use Rattle.crack_state.specs.declared.MergeReport.{MergeReport}
 use Rattle.crack_state.specs.State.{State, IsIntact, greatest}
 use Rattle.crack_state.specs.Merge.{outside_of}
 use Rattle.crack_state.specs.Pieces.{Pieces, last, below, column_of, marks_of, cut}
-use Rattle.crack_state.specs.Queues.{Event, comes, turns, stopped, is_below, any_row, after, after_turn, onward, next, left, passed, in_bulk, bulk_outcomes}
+use Rattle.crack_state.specs.Queues.{Event, comes, turns, stopped, is_below, any_row, after_event, after_turn, onward, next, left_after, passed, in_bulk, bulk_outcomes}
 use Rattle.crack_state.specs.Carried.{pieces_of, is_doomed, ends_with, moved_by, ended_so, ended_by, inside_of, put_in_by, arrivals, carried_in_bulk}
 use Rattle.crack_state.proofs.Divided.{AreDivided}
 use Rattle.crack_state.proofs.Sifts.{sifted, all_made_way, count_below, OfMet, risen}
@@ -133,7 +133,7 @@ module _ {X : Type 0} (key : X → ℕ) (stops : X → Bool) where
   abbrev IsUnder : InnerBound → Event X → Type 0
   IsUnder bound e = OfComing (λ x. key x < bound.0) e
 
-  last-below : (bound : InnerBound) (es : List (Event X)) (rows : List X) → All (IsUnder bound) es → (left key stops (any_row key stops) es rows ≡ left key stops (is_below key stops bound) es rows) × (passed key stops (any_row key stops) es rows ≡ passed key stops (is_below key stops bound) es rows)
+  last-below : (bound : InnerBound) (es : List (Event X)) (rows : List X) → All (IsUnder bound) es → (left_after key stops (any_row key stops) es rows ≡ left_after key stops (is_below key stops bound) es rows) × (passed key stops (any_row key stops) es rows ≡ passed key stops (is_below key stops bound) es rows)
   last-below bound [] rows all = (refl, refl)
   last-below bound (comes x ∷ es) rows all =
       let under = lt-ltb (key x) bound.0 (All-head (IsUnder bound) (comes x) es all) in
@@ -149,8 +149,8 @@ module _ {X : Type 0} (key : X → ℕ) (stops : X → Bool) where
   All-passed : (P : X → Type 0) (own : X → Bool) (es : List (Event X)) (rows : List X) → All (OfComing P) es → All (OfComing P) (passed key stops own es rows)
   All-passed P own [] rows all = All-nil (OfComing P)
   All-passed P own (e ∷ es) rows all =
-      let on : List (Event X) = passed key stops own es (after key stops own e rows) in
-      All-cons (OfComing P) (next key stops own e rows) on (OfComing-next key stops P own e rows (All-head (OfComing P) e es all)) (All-passed P own es (after key stops own e rows) (All-tail (OfComing P) e es all))
+      let on : List (Event X) = passed key stops own es (after_event key stops own e rows) in
+      All-cons (OfComing P) (next key stops own e rows) on (OfComing-next key stops P own e rows (All-head (OfComing P) e es all)) (All-passed P own es (after_event key stops own e rows) (All-tail (OfComing P) e es all))
 
   -- if all rows that come in are of pieces below a bound, the rows that go on from these pieces reach the others
   in_bulk-joined : (es : List (Event X)) (pieces : Pieces X) (bound : InnerBound) (others : Pieces X) → All (IsUnder bound) es → (in_bulk key stops es (joined pieces bound others) ≡ joined (in_bulk key stops es pieces) bound (in_bulk key stops (bulk_outcomes key stops es pieces) others)) × (bulk_outcomes key stops es (joined pieces bound others) ≡ bulk_outcomes key stops (bulk_outcomes key stops es pieces) others)
@@ -160,11 +160,11 @@ module _ {X : Type 0} (key : X → ℕ) (stops : X → Bool) where
   in_bulk-joined es (below rows b pieces) bound others all =
       let own = is_below key stops b in
       let rest = in_bulk-joined (passed key stops own es rows) pieces bound others (All-passed (λ x. key x < bound.0) own es rows all) in
-      (ap (below (left key stops own es rows) b) rest.0, rest.1)
+      (ap (below (left_after key stops own es rows) b) rest.0, rest.1)
 
   length-passed : (own : X → Bool) (es : List (Event X)) (rows : List X) → length (passed key stops own es rows) ≡ length es
   length-passed own [] rows = refl
-  length-passed own (e ∷ es) rows = ap suc (length-passed own es (after key stops own e rows))
+  length-passed own (e ∷ es) rows = ap suc (length-passed own es (after_event key stops own e rows))
 
   length-outcomes : (es : List (Event X)) (pieces : Pieces X) → length (bulk_outcomes key stops es pieces) ≡ length es
   length-outcomes es (last rows) = length-passed (any_row key stops) es rows

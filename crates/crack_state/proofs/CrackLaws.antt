@@ -12,7 +12,7 @@ use Rattle.crack_row.specs.declared.Row.{Row}
 use Rattle.crack_arena.specs.Arena.{Cell, Handle, times, empty_cell, slots}
 use Rattle.crack_arena.proofs.Times.{times-map-IsPermutation}
 use Rattle.crack_index.specs.declared.mark.Mark.{Mark}
-use Rattle.crack_index.specs.Marks.{Rising, added, next_mark, last_mark, start_of, end_of, HasBound}
+use Rattle.crack_index.specs.Marks.{Rising, with_mark, next_mark, last_mark, start_of, end_of, HasBound}
 use Rattle.crack_index.proofs.MarkLaws.{next_mark-is, last_mark-is, Fits-piece, All-added, Contains-kept, HasBound-added, Rising-added, HasBound-mark, HasBound-contains}
 use Rattle.crack_arena.specs.Rows.{key_at}
 use Rattle.crack_arena.specs.Memories.{Memory}
@@ -34,7 +34,7 @@ AreEnds r first second = ((first ≡ r.low) × (second ≡ r.high)) ⊎ ((first 
 
 -- crack: a bound divides its own piece at a place; the column's handles are in this order
 abbrev pub cracked_at : InnerBound → ℕ → List Handle → State → State
-cracked_at bound place handles s = record s { column = handles; marks = added (record { bound = bound; position = place }) s.marks }
+cracked_at bound place handles s = record s { column = handles; marks = with_mark (record { bound = bound; position = place }) s.marks }
 
 -- how a bound's own piece is cracked: its rows, divided by the bound, and no others, whatever is remembered about them
 pub record CracksAt (s u : State) (bound : InnerBound) : Type 0 where
@@ -95,7 +95,7 @@ module _ (s u : State) (hand : List Handle) (bound : InnerBound) (c : CracksAt s
   ]
 
   -- every mark divides the cracked column, including the new one
-  Obeyed-cracked : IsObeyed (added new_mark s.marks) (map (key_at s.cells) u.column)
+  Obeyed-cracked : IsObeyed (with_mark new_mark s.marks) (map (key_at s.cells) u.column)
   Obeyed-cracked =
       let low = piece_before s bound.0 intact.rising intact.obeyed in
       let high = piece_behind s hand bound.0 c.high intact in
@@ -133,7 +133,7 @@ module _ (s u : State) (hand : List Handle) (bound : InnerBound) (c : CracksAt s
   -- a crack refines a store
   pub RefinesAt-cracked : RefinesAt s u bound.0
   RefinesAt-cracked =
-      let marks : u.marks ≡ added new_mark s.marks = ap (λ (x : State). x.marks) c.after in
+      let marks : u.marks ≡ with_mark new_mark s.marks = ap (λ (x : State). x.marks) c.after in
       record {
         same = rw c.after refl;
         long = length-Cracks s.cells bound.0 from to s.column c.known u.column c.known' c.place c.cracks;
@@ -149,7 +149,7 @@ module _ (s u : State) (hand : List Handle) (bound : InnerBound) (c : CracksAt s
               ]
             ];
         kept = λ n is. rw marks (Contains-kept new_mark s.marks n is);
-        added = λ b is. rw marks ((HasBound-added new_mark s.marks b).1 (inl is.0));
+        with_mark = λ b is. rw marks ((HasBound-added new_mark s.marks b).1 (inl is.0));
         only = λ b has. elim ((HasBound-added new_mark s.marks b).0 (rw marks at has)) [
           | inl is ↦ inr (is, omega (arith, c.low), omega (arith, c.high))
           | inr there ↦ inl there
@@ -180,7 +180,7 @@ RefinesBy-refl IsNew s there = record {
   long = refl;
   pieces = λ p q is_p is_q. IsPermutation-refl (between p q s.column);
   kept = λ m is. is;
-  added = there;
+  with_mark = there;
   only = λ b has. inl has;
 }
 
@@ -191,7 +191,7 @@ RefinesBy-trans New First Second s u v is_new new_is a b = record {
   long = b.long ∙ a.long;
   pieces = λ p q is_p is_q. IsPermutation-trans (between p q s.column) (between p q u.column) (between p q v.column) (a.pieces p q is_p is_q) (b.pieces p q (cuts_kept First s u a p is_p) (cuts_kept First s u a q is_q));
   kept = λ m is. b.kept m (a.kept m is);
-  added = λ n is. elim (new_is n is) [
+  with_mark = λ n is. elim (new_is n is) [
     | inl new ↦
         let at = HasBound-contains u.marks n (a.added n new) in
         rw at.2 at (HasBound-mark v.marks at.0 (b.kept at.0 at.1))

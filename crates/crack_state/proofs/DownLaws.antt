@@ -6,7 +6,7 @@ use Rattle.std.proofs.lemmas.List.Elements.{All-nil, All-cons, All-head, All-tai
 use Rattle.crack_row.specs.declared.InnerBound.{InnerBound}
 use Rattle.crack_state.specs.Pieces.{Pieces, last, below}
 use Rattle.crack_state.proofs.Divided.{AreDivided}
-use Rattle.crack_state.specs.Queues.{Event, comes, turns, stopped, is_below, any_row, left, passed, in_bulk, bulk_outcomes}
+use Rattle.crack_state.specs.Queues.{Event, comes, turns, stopped, is_below, any_row, left_after, passed, in_bulk, bulk_outcomes}
 use Rattle.crack_state.proofs.Placed.{reaching, turners, met_by, survivors, placed, pass_over, going, placed_all, sifted_down}
 use Rattle.crack_state.proofs.PlacedLaws.{met-own, survivors-own, pass_over-placed}
 
@@ -75,7 +75,7 @@ module _ {X : Type 0} (key : X → ℕ) (stops : X → Bool) where
 
   -- a piece after the events, and which carries go on
   record Met (low : ℕ) (own : X → Bool) (xs : List X) (es : List (Event X)) (rows : List X) : Type 0 where
-    left_is : left key stops own es rows ≡ met_by key stops low (reaching key stops own xs es) rows
+    left_is : left_after key stops own es rows ≡ met_by key stops low (reaching key stops own xs es) rows
     on_are : going key stops xs (passed key stops own es rows) ≡ survivors key stops low (reaching key stops own xs es) rows
     out_are : AreOut own xs (passed key stops own es rows)
 
@@ -131,7 +131,7 @@ module _ {X : Type 0} (key : X → ℕ) (stops : X → Bool) where
       record { left_is = rest.left_is; on_are = rest.on_are; out_are = (lower x are.0, rest.out_are) }
 
   -- one pass
-  one_pass : (low : ℕ) (own : X → Bool) → ((x : X) → key x < low → own x ≡ true) → (xs : List X) (es : List (Event X)) (rows : List X) → AreOn low xs es → All Goes xs → All (λ x. low ≤ key x) rows → pass_over key stops low (going key stops xs (passed key stops own es rows)) [] (placed key stops (turners key stops low (reaching key stops own xs es)) rows) ≡ (going key stops xs es, left key stops own es rows)
+  one_pass : (low : ℕ) (own : X → Bool) → ((x : X) → key x < low → own x ≡ true) → (xs : List X) (es : List (Event X)) (rows : List X) → AreOn low xs es → All Goes xs → All (λ x. low ≤ key x) rows → pass_over key stops low (going key stops xs (passed key stops own es rows)) [] (placed key stops (turners key stops low (reaching key stops own xs es)) rows) ≡ (going key stops xs es, left_after key stops own es rows)
   one_pass low own lower xs es rows are coming over =
       let one = met low own lower xs es rows are in
       let ws : List X = reaching key stops own xs es in

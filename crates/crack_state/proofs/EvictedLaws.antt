@@ -6,7 +6,7 @@ use Rattle.std.proofs.lemmas.List.{drop-append-le, drop_all, length-drop}
 use Rattle.std.proofs.lemmas.List.Elements.{All-head, All-tail, All-cons, All-same}
 use Rattle.crack_index.specs.declared.mark.Mark.{Mark}
 use Rattle.crack_state.specs.Pieces.{Pieces, last, below, column_of, marks_of}
-use Rattle.crack_state.specs.Queues.{Event, comes, turns, stopped, is_below, any_row, left, passed, in_bulk}
+use Rattle.crack_state.specs.Queues.{Event, comes, turns, stopped, is_below, any_row, left_after, passed, in_bulk}
 use Rattle.crack_state.proofs.AgreeLaws.{Each}
 use Rattle.crack_state.proofs.TurnLaws.{arriving}
 
@@ -44,7 +44,7 @@ module _ {X : Type 0} (key : X → ℕ) (stops : X → Bool) where
 
   -- a piece beyond the ceiling after carries, and how many carries go on
   record Taken (own : X → Bool) (es : List (Event X)) (rows : List X) : Type 0 where
-    left_is : left key stops own es rows ≡ drop (arriving es) rows
+    left_is : left_after key stops own es rows ≡ drop (arriving es) rows
     on_are : arriving (passed key stops own es rows) ≡ arriving es - length rows
     none : All NoneComes (passed key stops own es rows)
 
@@ -103,7 +103,7 @@ module _ {X : Type 0} (key : X → ℕ) (stops : X → Bool) where
       let on : List (Event X) = passed key stops own es rows in
       let one = taken own es rows come all.0 in
       let top : ℕ = max (place + length rows) (place + arriving es) in
-      let here : (place + arriving es) + length (left key stops own es rows) ≡ top = omega (arith, ap length one.left_is, length-drop (arriving es) rows) in
+      let here : (place + arriving es) + length (left_after key stops own es rows) ≡ top = omega (arith, ap length one.left_is, length-drop (arriving es) rows) in
       let next : (place + length rows) + arriving on ≡ top = omega (arith, one.on_are) in
       let rest : marks_of top (in_bulk key stops on pieces) ≡ map (at_least top) (marks_of (place + length rows) pieces) = rw next at (marks_of-beyond (place + length rows) on pieces one.none all.1) in
       rw (here, rest, at_least-higher (place + arriving es) (place + length rows) pieces) refl

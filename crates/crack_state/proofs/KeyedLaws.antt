@@ -8,9 +8,9 @@ use Rattle.std.proofs.lemmas.List.FromFn.{length-range_with_len, get_or-range_wi
 use Rattle.crack_row.proofs.Lists.{Contains-filter_map}
 use Rattle.crack_row.specs.declared.Row.{Row}
 use Rattle.crack_arena.specs.Arena.{Cell, Handle, times, read, slots}
-use Rattle.crack_state.specs.State.{State, IsIntact, IsKeyed, handle_of, live_at, live_rows}
+use Rattle.crack_state.specs.State.{State, IsIntact, IsKeyed, live_at, live_rows}
 use Rattle.crack_state.proofs.Words.{IsLiveAt, is_live}
-use Rattle.crack_state.specs.Points.{Maps}
+use Rattle.crack_serials.specs.Serials.{handle_of, Maps}
 use Rattle.crack_state.proofs.PieceLaws.{cases_Option}
 use Rattle.crack_state.proofs.LiveLaws.{none_either, Hides}
 use Rattle.crack_state.proofs.CellLaws.{read-off, reads_some, one_handle, read-value, cell_within}

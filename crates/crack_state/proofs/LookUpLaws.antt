@@ -11,7 +11,8 @@ use Rattle.crack_row.proofs.Lists.{IsPermutation-filter, filter_all, find_only, 
 use Rattle.crack_row.specs.Rows.{is_other, replaced}
 use Rattle.crack_row.specs.declared.Row.{Row}
 use Rattle.crack_arena.specs.Arena.{Handle, read, slots}
-use Rattle.crack_state.specs.State.{State, IsIntact, handle_of, live_rows}
+use Rattle.crack_serials.specs.Serials.{handle_of}
+use Rattle.crack_state.specs.State.{State, IsIntact, live_rows}
 use Rattle.crack_state.proofs.Words.{IsLiveAt, is_live}
 use Rattle.crack_state.specs.Points.{row_by, pending_by, handle_by, Cancels, Dooms}
 use Rattle.crack_state.proofs.KeyedLaws.{Contains-live}

@@ -1,14 +1,14 @@
 -- The pieces of a column after events one after the other, each of which goes through all the pieces that it reaches.
 use Rattle.std.specs.Prelude.{ℕ, Bool, List, [], ◌∷◌}
 use Rattle.crack_state.specs.Pieces.{Pieces, last, below}
-use Rattle.crack_state.specs.Queues.{Event, is_below, any_row, after, next}
+use Rattle.crack_state.specs.Queues.{Event, is_below, any_row, after_event, next}
 
 module _ {X : Type 0} (key : X → ℕ) (stops : X → Bool) where
   -- the pieces that one event reaches, after it
   abbrev pub reached : Event X → Pieces X → Pieces X
-  reached e (last rows) = last (after key stops (any_row key stops) e rows)
+  reached e (last rows) = last (after_event key stops (any_row key stops) e rows)
   reached e (below rows bound pieces) =
-      below (after key stops (is_below key stops bound) e rows) bound (reached (next key stops (is_below key stops bound) e rows) pieces)
+      below (after_event key stops (is_below key stops bound) e rows) bound (reached (next key stops (is_below key stops bound) e rows) pieces)
 
   -- how it has ended
   abbrev pub outcome : Event X → Pieces X → Event X

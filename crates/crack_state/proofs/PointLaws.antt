@@ -16,10 +16,11 @@ use Rattle.crack_row.specs.Rows.{replaced}
 use Rattle.crack_row.specs.declared.Row.{Row}
 use Rattle.crack_arena.specs.Arena.{Cell, Handle, StandsAt, times, read, cell_at, empty_cell, slots, no_handle, place_in}
 use Rattle.crack_arena.proofs.Times.{times-nil, times_other, times_head, times-append, times-map-append}
-use Rattle.crack_state.specs.State.{State, Reads, IsIntact, IsKeyed, handle_of, freed_of, live_at, live_rows}
+use Rattle.crack_serials.specs.Serials.{handle_of, Maps}
+use Rattle.crack_state.specs.State.{State, Reads, IsIntact, IsKeyed, freed_of, live_at, live_rows}
 use Rattle.crack_state.proofs.Words.{IsLiveAt, is_live, AreEmpty}
 use Rattle.crack_state.specs.Steps.{next_handle}
-use Rattle.crack_state.specs.Points.{pending_by, handle_by, Maps, MayFree, struck, doomed_too, overwritten, renewed, Cancels, Dooms, Renews, Rewrites, IsRenewable, IsRewritable}
+use Rattle.crack_state.specs.Points.{pending_by, handle_by, MayFree, struck, doomed_too, overwritten, renewed, Cancels, Dooms, Renews, Rewrites, IsRenewable, IsRewritable}
 use Rattle.crack_state.proofs.PieceLaws.{cases_Option}
 use Rattle.crack_state.proofs.OwnedLaws.{places_of, times-taken, times-places}
 use Rattle.crack_state.proofs.CellLaws.{AgreeOff-set, read-off, keys-off, generation_of_read, reads_some, one_handle, stands_there, read-value, cell_within}

@@ -8,7 +8,7 @@ use Rattle.std.proofs.lemmas.List.Sums.{sum_by-cons}
 use Rattle.crack_row.specs.declared.InnerBound.{InnerBound}
 use Rattle.crack_state.specs.Pieces.{Pieces, last, below, marks_of}
 use Rattle.crack_state.proofs.Divided.{AreDivided}
-use Rattle.crack_state.specs.Queues.{Event, comes, turns, stopped, is_below, any_row, left, passed, in_bulk, bulk_outcomes}
+use Rattle.crack_state.specs.Queues.{Event, comes, turns, stopped, is_below, any_row, left_after, passed, in_bulk, bulk_outcomes}
 use Rattle.crack_column.specs.Sifts.{turned_once, one_if_some, below_bound, queued, made_way}
 use Rattle.crack_state.proofs.Sifts.{sifted, all_made_way, count_below, OfMet, risen}
 
@@ -64,7 +64,7 @@ module _ {X : Type 0} (key : X → ℕ) (stops : X → Bool) where
 
   -- a piece after the events, how many of its rows move, and which events go on
   record Through (low : ℕ) (own : X → Bool) (xs : List X) (es : List (Event X)) (rows : List X) : Type 0 where
-    left_is : left key stops own es rows ≡ queued key low (filter own xs) rows
+    left_is : left_after key stops own es rows ≡ queued key low (filter own xs) rows
     total_is : sum_by moved_of (passed key stops own es rows) ≡ sum_by moved_of es + made_way key low (filter own xs) rows
     next_are : AreNext own xs (passed key stops own es rows)
 

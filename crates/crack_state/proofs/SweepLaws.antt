@@ -8,7 +8,7 @@ use Rattle.std.proofs.lemmas.List.Elements.{All-nil, All-cons, All-head, All-tai
 use Rattle.std.proofs.lemmas.List.Sums.{sum_by-cons, sum_by_push, sum_by-append}
 use Rattle.crack_row.specs.declared.InnerBound.{InnerBound}
 use Rattle.crack_state.specs.Pieces.{Pieces, last, below, column_of, marks_of}
-use Rattle.crack_state.specs.Queues.{Event, comes, turns, stopped, is_below, any_row, after, onward, after_turn, left, passed, in_bulk, bulk_outcomes}
+use Rattle.crack_state.specs.Queues.{Event, comes, turns, stopped, is_below, any_row, after_event, onward, after_turn, left_after, passed, in_bulk, bulk_outcomes}
 use Rattle.crack_state.specs.Sweeps.{Swept, Round, goes_on, round, swept, is_lower, any_lower, swept_by}
 use Rattle.crack_state.proofs.SweptUp.{swept_up, swept_marks}
 use Rattle.crack_state.proofs.Divided.{AreDivided}
@@ -85,15 +85,15 @@ module _ {X : Type 0} (key : X → ℕ) (stops : X → Bool) where
   Are-push own (f ∷ fs) (u ∷ us) e t are one = (are.0, Are-push own fs us e t are.1 one)
 
   -- another row that goes on is at the place of one that does
-  Are-put : (own : X → Bool) (es : List (Event X)) (before after : List X) (q t : X) → goes_on stops own q ≡ true → goes_on stops own t ≡ true → Are own es (before ++ q ∷ after) → Are own es (before ++ t ∷ after)
-  Are-put own [] [] after q t was is are = absurd are
-  Are-put own [] (u ∷ us) after q t was is are = absurd are
-  Are-put own (comes x ∷ es) [] after q t was is are =
+  Are-put : (own : X → Bool) (es : List (Event X)) (before after_event : List X) (q t : X) → goes_on stops own q ≡ true → goes_on stops own t ≡ true → Are own es (before ++ q ∷ after_event) → Are own es (before ++ t ∷ after_event)
+  Are-put own [] [] after_event q t was is are = absurd are
+  Are-put own [] (u ∷ us) after_event q t was is are = absurd are
+  Are-put own (comes x ∷ es) [] after_event q t was is are =
       absurd (true≢false (sym (goes-own own q was) ∙ ap own are.0.0 ∙ are.0.1))
-  Are-put own (turns moved ∷ es) [] after q t was is are = (is, are.1)
-  Are-put own (stopped moved y ∷ es) [] after q t was is are =
+  Are-put own (turns moved ∷ es) [] after_event q t was is are = (is, are.1)
+  Are-put own (stopped moved y ∷ es) [] after_event q t was is are =
       absurd (true≢false (sym are.0.1 ∙ ap stops (sym are.0.0) ∙ goes-lasts own q was))
-  Are-put own (e ∷ es) (u ∷ us) after q t was is are = (are.0, Are-put own es us after q t was is are.1)
+  Are-put own (e ∷ es) (u ∷ us) after_event q t was is are = (are.0, Are-put own es us after_event q t was is are.1)
 
   -- the queue turned once, from the places that were passed
   record Turned (own : X → Bool) (t : X) (done queue : List X) (pre : List (Event X)) (moved : ℕ) : Type 0 where
@@ -144,7 +144,7 @@ module _ {X : Type 0} (key : X → ℕ) (stops : X → Bool) where
 
   -- a piece afterwards, and how far the carries have come
   record Leaves (under own : X → Bool) (es : List (Event X)) (ts front rows done queue : List X) (pre : List (Event X)) : Type 0 where
-    flat : (front ++ filter (goes_on stops own) done) ++ (filter (goes_on stops under) ts ++ left key stops own es (rows ++ filter (goes_on stops own) queue)) ≡ (swept stops under own ts front rows done queue).piece ++ filter (goes_on stops own) (swept stops under own ts front rows done queue).tail
+    flat : (front ++ filter (goes_on stops own) done) ++ (filter (goes_on stops under) ts ++ left_after key stops own es (rows ++ filter (goes_on stops own) queue)) ≡ (swept stops under own ts front rows done queue).piece ++ filter (goes_on stops own) (swept stops under own ts front rows done queue).tail
     are : Are own (pre ++ passed key stops own es (rows ++ filter (goes_on stops own) queue)) (swept stops under own ts front rows done queue).tail
     made : sum_by moved_of (passed key stops own es (rows ++ filter (goes_on stops own) queue)) ≡ sum_by moved_of es + (swept stops under own ts front rows done queue).made
 
@@ -169,7 +169,7 @@ module _ {X : Type 0} (key : X → ℕ) (stops : X → Bool) where
   by-step under own t ts front (y ∷ ys) done queue off = rw off refl
 
   -- a row that doesn't turn the piece is passed
-  aside : (under own : X → Bool) (e f : Event X) (es : List (Event X)) (t : X) (ts front rows done queue : List X) (pre : List (Event X)) → goes_on stops under t ≡ false → left key stops own (e ∷ es) (rows ++ filter (goes_on stops own) queue) ≡ left key stops own es (rows ++ filter (goes_on stops own) (queue ++ t ∷ [])) → passed key stops own (e ∷ es) (rows ++ filter (goes_on stops own) queue) ≡ f ∷ passed key stops own es (rows ++ filter (goes_on stops own) (queue ++ t ∷ [])) → moved_of f ≡ moved_of e → Leaves under own es ts front rows done (queue ++ t ∷ []) (pre ++ f ∷ []) → Leaves under own (e ∷ es) (t ∷ ts) front rows done queue pre
+  aside : (under own : X → Bool) (e f : Event X) (es : List (Event X)) (t : X) (ts front rows done queue : List X) (pre : List (Event X)) → goes_on stops under t ≡ false → left_after key stops own (e ∷ es) (rows ++ filter (goes_on stops own) queue) ≡ left_after key stops own es (rows ++ filter (goes_on stops own) (queue ++ t ∷ [])) → passed key stops own (e ∷ es) (rows ++ filter (goes_on stops own) queue) ≡ f ∷ passed key stops own es (rows ++ filter (goes_on stops own) (queue ++ t ∷ [])) → moved_of f ≡ moved_of e → Leaves under own es ts front rows done (queue ++ t ∷ []) (pre ++ f ∷ []) → Leaves under own (e ∷ es) (t ∷ ts) front rows done queue pre
   aside under own e f es t ts front rows done queue pre off lefts ons same rest =
       let step = by-step under own t ts front rows done queue off in
       let on : List (Event X) = passed key stops own es (rows ++ filter (goes_on stops own) (queue ++ t ∷ [])) in
@@ -209,7 +209,7 @@ module _ {X : Type 0} (key : X → ℕ) (stops : X → Bool) where
       let before_on : Are own (pre ++ stopped moved y ∷ []) (done ++ (queue ++ t ∷ [])) = rw (append_assoc done queue (t ∷ [])) at (Are-push own pre (done ++ queue) (stopped moved y) t before are.0) in
       let rest = leaves under own sub es ts front rows done (queue ++ t ∷ []) (pre ++ stopped moved y ∷ []) mine begins are.1 before_on in
       let shape : rows ++ filter g queue ≡ rows ++ filter g (queue ++ t ∷ []) = rw (filter-push g queue t, isnt, append-nil (filter g queue)) refl in
-      aside under own (stopped moved y) (stopped moved y) es t ts front rows done queue pre off (ap (left key stops own es) shape) (ap (λ zs. stopped moved y ∷ passed key stops own es zs) shape) refl rest
+      aside under own (stopped moved y) (stopped moved y) es t ts front rows done queue pre off (ap (left_after key stops own es) shape) (ap (λ zs. stopped moved y ∷ passed key stops own es zs) shape) refl rest
   leaves under own sub (turns moved ∷ es) (t ∷ ts) front [] done queue pre mine begins are before =
       let g = goes_on stops own in
       let is : own t ≡ true = sub t (goes-own under t are.0) in
@@ -218,8 +218,8 @@ module _ {X : Type 0} (key : X → ℕ) (stops : X → Bool) where
       let r : Round X = round stops own t done queue in
       let rest = leaves under own sub es ts front [] r.done r.queue (pre ++ turns (moved + r.made) ∷ []) mine (inl refl) are.1 (once.are (turns (moved + r.made)) (moved + r.made) refl) in
       let on : List (Event X) = passed key stops own es (filter g r.queue) in
-      let shape : (front ++ filter g done) ++ t ∷ (filter (goes_on stops under) ts ++ left key stops own es (filter g r.queue)) ≡ (front ++ filter g r.done) ++ (filter (goes_on stops under) ts ++ left key stops own es (filter g r.queue)) =
-      sym (append_assoc (front ++ filter g done) (t ∷ []) (filter (goes_on stops under) ts ++ left key stops own es (filter g r.queue))) ∙ ap (λ zs. zs ++ (filter (goes_on stops under) ts ++ left key stops own es (filter g r.queue))) (append_assoc front (filter g done) (t ∷ []) ∙ ap (λ zs. front ++ zs) (sym once.done_is)) in
+      let shape : (front ++ filter g done) ++ t ∷ (filter (goes_on stops under) ts ++ left_after key stops own es (filter g r.queue)) ≡ (front ++ filter g r.done) ++ (filter (goes_on stops under) ts ++ left_after key stops own es (filter g r.queue)) =
+      sym (append_assoc (front ++ filter g done) (t ∷ []) (filter (goes_on stops under) ts ++ left_after key stops own es (filter g r.queue))) ∙ ap (λ zs. zs ++ (filter (goes_on stops under) ts ++ left_after key stops own es (filter g r.queue))) (append_assoc front (filter g done) (t ∷ []) ∙ ap (λ zs. front ++ zs) (sym once.done_is)) in
       record {
         flat = rw (are.0, ← once.queue_is) (shape ∙ rest.flat);
         are = rw (are.0, once.event, ← once.queue_is) (rw (append_assoc pre (turns (moved + r.made) ∷ []) on) at rest.are);
@@ -240,7 +240,7 @@ module _ {X : Type 0} (key : X → ℕ) (stops : X → Bool) where
             let rest = leaves under own sub es ts (front ++ t ∷ []) ys done (queue ++ y ∷ []) (pre ++ stopped (suc moved) y ∷ []) others (inr none) are.1 before_on in
             let shape : ys ++ filter g queue ≡ ys ++ filter g (queue ++ y ∷ []) = rw (filter-push g queue y, off, append-nil (filter g queue)) refl in
             let on : List (Event X) = passed key stops own es (ys ++ filter g (queue ++ y ∷ [])) in
-            let flat_on : ((front ++ filter g done) ++ t ∷ (filter (goes_on stops under) ts ++ left key stops own es (ys ++ filter g (queue ++ y ∷ [])))) ≡ ((front ++ t ∷ []) ++ filter g done) ++ (filter (goes_on stops under) ts ++ left key stops own es (ys ++ filter g (queue ++ y ∷ []))) = rw (none, append-nil front, append-nil (front ++ t ∷ [])) (sym (append_assoc front (t ∷ []) (filter (goes_on stops under) ts ++ left key stops own es (ys ++ filter g (queue ++ y ∷ []))))) in
+            let flat_on : ((front ++ filter g done) ++ t ∷ (filter (goes_on stops under) ts ++ left_after key stops own es (ys ++ filter g (queue ++ y ∷ [])))) ≡ ((front ++ t ∷ []) ++ filter g done) ++ (filter (goes_on stops under) ts ++ left_after key stops own es (ys ++ filter g (queue ++ y ∷ []))) = rw (none, append-nil front, append-nil (front ++ t ∷ [])) (sym (append_assoc front (t ∷ []) (filter (goes_on stops under) ts ++ left_after key stops own es (ys ++ filter g (queue ++ y ∷ []))))) in
             record {
               flat = rw (are.0, stop, shape) (flat_on ∙ rest.flat);
               are = rw (are.0, stop, shape) (rw (append_assoc pre (stopped (suc moved) y ∷ []) on) at rest.are);
@@ -252,7 +252,7 @@ module _ {X : Type 0} (key : X → ℕ) (stops : X → Bool) where
             let rest = leaves under own sub es ts (front ++ t ∷ []) ys done (queue ++ y ∷ []) (pre ++ turns (suc moved) ∷ []) others (inr none) are.1 before_on in
             let shape : (ys ++ filter g queue) ++ y ∷ [] ≡ ys ++ filter g (queue ++ y ∷ []) = append_assoc ys (filter g queue) (y ∷ []) ∙ rw (filter-push g queue y, on_it) refl in
             let on : List (Event X) = passed key stops own es (ys ++ filter g (queue ++ y ∷ [])) in
-            let flat_on : ((front ++ filter g done) ++ t ∷ (filter (goes_on stops under) ts ++ left key stops own es (ys ++ filter g (queue ++ y ∷ [])))) ≡ ((front ++ t ∷ []) ++ filter g done) ++ (filter (goes_on stops under) ts ++ left key stops own es (ys ++ filter g (queue ++ y ∷ []))) = rw (none, append-nil front, append-nil (front ++ t ∷ [])) (sym (append_assoc front (t ∷ []) (filter (goes_on stops under) ts ++ left key stops own es (ys ++ filter g (queue ++ y ∷ []))))) in
+            let flat_on : ((front ++ filter g done) ++ t ∷ (filter (goes_on stops under) ts ++ left_after key stops own es (ys ++ filter g (queue ++ y ∷ [])))) ≡ ((front ++ t ∷ []) ++ filter g done) ++ (filter (goes_on stops under) ts ++ left_after key stops own es (ys ++ filter g (queue ++ y ∷ []))) = rw (none, append-nil front, append-nil (front ++ t ∷ [])) (sym (append_assoc front (t ∷ []) (filter (goes_on stops under) ts ++ left_after key stops own es (ys ++ filter g (queue ++ y ∷ []))))) in
             record {
               flat = rw (are.0, lasts, shape) (flat_on ∙ rest.flat);
               are = rw (are.0, lasts, shape) (rw (append_assoc pre (turns (suc moved) ∷ []) on) at rest.are);
@@ -304,13 +304,13 @@ module _ {X : Type 0} (key : X → ℕ) (stops : X → Bool) where
       let here : Swept X = swept_by key stops low own ts rows in
       let on : List (Event X) = passed key stops own es rows in
       let are_on : Are own on here.tail = rw same at one.are in
-      let flat_on : filter (goes_on stops (is_lower key stops low)) ts ++ left key stops own es rows ≡ here.piece ++ filter (goes_on stops own) here.tail = rw same at one.flat in
+      let flat_on : filter (goes_on stops (is_lower key stops low)) ts ++ left_after key stops own es rows ≡ here.piece ++ filter (goes_on stops own) here.tail = rw same at one.flat in
       let made_on : sum_by moved_of on ≡ sum_by moved_of es + here.made = rw same at one.made in
       let rest = AreSwept-of bound.0 on here.tail pieces divided.2 are_on in
       let above : Swept X = swept_up key stops bound.0 here.tail pieces in
       let higher : List X = column_of (in_bulk key stops on pieces) in
       record {
-        flat = sym (append_assoc (filter (goes_on stops (is_lower key stops low)) ts) (left key stops own es rows) higher) ∙ ap (λ zs. zs ++ higher) flat_on ∙ append_assoc here.piece (filter (goes_on stops own) here.tail) higher ∙ ap (λ zs. here.piece ++ zs) rest.flat ∙ sym (append_assoc here.piece above.piece (filter (goes_on stops (any_row key stops)) above.tail));
+        flat = sym (append_assoc (filter (goes_on stops (is_lower key stops low)) ts) (left_after key stops own es rows) higher) ∙ ap (λ zs. zs ++ higher) flat_on ∙ append_assoc here.piece (filter (goes_on stops own) here.tail) higher ∙ ap (λ zs. here.piece ++ zs) rest.flat ∙ sym (append_assoc here.piece above.piece (filter (goes_on stops (any_row key stops)) above.tail));
         are = rest.are;
         made = omega (arith, rest.made, made_on);
         marks = λ place. rw (← (count-arriving own on here.tail are_on), rest.marks (place + length rows)) refl;

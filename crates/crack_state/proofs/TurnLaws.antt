@@ -7,7 +7,7 @@ use Rattle.std.proofs.lemmas.Nat.{div-add-mod', mod_below}
 use Rattle.std.proofs.lemmas.List.Elements.{All-head, All-tail}
 use Rattle.crack_index.specs.declared.mark.Mark.{Mark}
 use Rattle.crack_state.specs.Pieces.{Pieces, last, below, marks_of}
-use Rattle.crack_state.specs.Queues.{Event, comes, turns, stopped, is_below, left, passed, in_bulk}
+use Rattle.crack_state.specs.Queues.{Event, comes, turns, stopped, is_below, left_after, passed, in_bulk}
 use Rattle.crack_column.specs.Sifts.{turned_once, queued}
 use Rattle.crack_state.proofs.PieceMarkLaws.{mark_at}
 
@@ -84,7 +84,7 @@ module _ {X : Type 0} (key : X → ℕ) (stops : X → Bool) where
       mark_at bound (place + length rows + arriving on) ∷ marks_up (place + length rows) on pieces
 
   -- a piece has as many rows more as carries go on from it that didn't come from below
-  length-left : (own : X → Bool) (es : List (Event X)) (rows : List X) → length (left key stops own es rows) + arriving es ≡ length rows + arriving (passed key stops own es rows)
+  length-left : (own : X → Bool) (es : List (Event X)) (rows : List X) → length (left_after key stops own es rows) + arriving es ≡ length rows + arriving (passed key stops own es rows)
   length-left own [] rows = refl
   length-left own (comes x ∷ es) rows = elim (cases_Bool (own x)) [
     | inl is ↦ rw is (omega (arith, length-left own es (rows ++ x ∷ []), length_push rows x))
@@ -102,5 +102,5 @@ module _ {X : Type 0} (key : X → ℕ) (stops : X → Bool) where
   marks_of-in_bulk place es (below rows bound pieces) =
       let own = is_below key stops bound in
       let on : List (Event X) = passed key stops own es rows in
-      let size : (place + arriving es) + length (left key stops own es rows) ≡ (place + length rows) + arriving on = omega (arith, length-left own es rows) in
+      let size : (place + arriving es) + length (left_after key stops own es rows) ≡ (place + length rows) + arriving on = omega (arith, length-left own es rows) in
       rw (size, marks_of-in_bulk (place + length rows) on pieces) refl

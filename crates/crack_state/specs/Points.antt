@@ -1,13 +1,14 @@
 -- What commands on one row do to a store. The row is found by its serial, and is removed, or replaced by another
 -- with the same serial.
-use Rattle.std.specs.Prelude.{◌≡◌, ℕ, ◌+◌, ◌<◌, Bool, true, false, nat_lt, nat_eq, if◌then◌else◌, drop, length, List, [], ◌∷◌, ◌++◌, Option, Some, None, IsSome, slice_set}
+use Rattle.std.specs.Prelude.{◌≡◌, ℕ, ◌+◌, ◌<◌, Bool, true, false, nat_lt, if◌then◌else◌, drop, length, List, [], ◌∷◌, ◌++◌, Option, Some, None, IsSome, slice_set}
 use Rattle.std.specs.List.{remove}
 use Rattle.std.specs.Option.{option_map, option_and_then, unwrap_or}
 use Rattle.crack_row.specs.Ranges.{IsIn}
 use Rattle.crack_row.specs.declared.Row.{Row}
 use Rattle.crack_arena.specs.declared.TheConstants.{MOST_CELLS, MOST_FREED}
 use Rattle.crack_arena.specs.Arena.{Handle, no_handle, read, cells_with, times, slots, place_in}
-use Rattle.crack_state.specs.State.{State, handle_of, freed_of}
+use Rattle.crack_serials.specs.Serials.{handle_of, Maps}
+use Rattle.crack_state.specs.State.{State, freed_of}
 use Rattle.crack_state.specs.Steps.{next_handle, SameButRoom}
 
 -- the row of a serial, if any
@@ -21,10 +22,6 @@ pending_by s serial = option_map (λ (h : Handle). nat_lt 0 (times h.slot (slots
 -- the handle of a serial
 abbrev pub handle_by : State → ℕ → Handle
 handle_by s serial = unwrap_or (handle_of s.serials serial) no_handle
-
--- the second map has this handle, or none, for the serial, and agrees with the first map on all other serials
-abbrev pub Maps : ℕ → Option Handle → List (ℕ × Handle) → List (ℕ × Handle) → Type 0
-Maps serial o serials after = (n : ℕ) → handle_of after n ≡ (if nat_eq serial n then o else handle_of serials n)
 
 -- a cell may be freed once more, now or later
 abbrev pub MayFree : State → Type 0

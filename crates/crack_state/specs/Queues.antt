@@ -33,10 +33,10 @@ module _ {X : Type 0} (key : X → ℕ) (stops : X → Bool) where
   onward moved (y ∷ ys) = cond (stops y) (stopped (suc moved) y) (turns (suc moved))
 
   -- the piece after an event
-  abbrev pub after : (X → Bool) → Event X → List X → List X
-  after own (comes x) rows = cond (own x) (rows ++ x ∷ []) rows
-  after own (turns moved) rows = after_turn rows
-  after own (stopped moved y) rows = rows
+  abbrev pub after_event : (X → Bool) → Event X → List X → List X
+  after_event own (comes x) rows = cond (own x) (rows ++ x ∷ []) rows
+  after_event own (turns moved) rows = after_turn rows
+  after_event own (stopped moved y) rows = rows
 
   -- the event that reaches the next piece
   abbrev pub next : (X → Bool) → Event X → List X → Event X
@@ -45,19 +45,19 @@ module _ {X : Type 0} (key : X → ℕ) (stops : X → Bool) where
   next own (stopped moved y) rows = stopped moved y
 
   -- the piece after all events that reach it
-  abbrev pub left : (X → Bool) → List (Event X) → List X → List X
-  left own [] rows = rows
-  left own (e ∷ es) rows = left own es (after own e rows)
+  abbrev pub left_after : (X → Bool) → List (Event X) → List X → List X
+  left_after own [] rows = rows
+  left_after own (e ∷ es) rows = left_after own es (after_event own e rows)
 
   -- the events that reach the next piece
   abbrev pub passed : (X → Bool) → List (Event X) → List X → List (Event X)
   passed own [] rows = []
-  passed own (e ∷ es) rows = next own e rows ∷ passed own es (after own e rows)
+  passed own (e ∷ es) rows = next own e rows ∷ passed own es (after_event own e rows)
 
   -- the pieces, each after all events that reach it
   abbrev pub in_bulk : List (Event X) → Pieces X → Pieces X
-  in_bulk es (last rows) = last (left any_row es rows)
-  in_bulk es (below rows bound pieces) = below (left (is_below bound) es rows) bound (in_bulk (passed (is_below bound) es rows) pieces)
+  in_bulk es (last rows) = last (left_after any_row es rows)
+  in_bulk es (below rows bound pieces) = below (left_after (is_below bound) es rows) bound (in_bulk (passed (is_below bound) es rows) pieces)
 
   -- the events that leave the last piece: the outcomes of the carries
   abbrev pub bulk_outcomes : List (Event X) → Pieces X → List (Event X)

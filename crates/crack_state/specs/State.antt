@@ -1,11 +1,11 @@
 -- A store as a record of lists, and its invariants.
-use Rattle.std.specs.Prelude.{◌≡◌, ℕ, ◌+◌, ◌<◌, ◌≤◌, ◌^◌, ◌-◌, ◌==◌, nat_lt, nat_eq, if◌then◌else◌, sum_by, List, ◌++◌, length, map, Option, Some, None, IsSome, IfSome}
+use Rattle.std.specs.Prelude.{◌≡◌, ℕ, ◌+◌, ◌<◌, ◌≤◌, ◌^◌, ◌-◌, ◌==◌, nat_lt, if◌then◌else◌, sum_by, List, ◌++◌, length, map, Option, Some, None, IsSome, IfSome}
 use Rattle.std.specs.List.{All, filter_map, range_with_len}
-use Rattle.std.specs.Map.{lookup}
 use Rattle.crack_row.specs.Ranges.{Range, IsIn}
 use Rattle.crack_row.specs.declared.Row.{Row}
 use Rattle.crack_arena.specs.declared.TheConstants.{MOST_FREED}
 use Rattle.crack_arena.specs.Arena.{Cell, Handle, read, cell_at, times, slots}
+use Rattle.crack_serials.specs.Serials.{handle_of}
 use Rattle.crack_index.specs.declared.mark.Mark.{Mark}
 use Rattle.crack_index.specs.Marks.{Rising}
 use Rattle.crack_arena.specs.Rows.{key_at}
@@ -58,10 +58,6 @@ live_at cells doomed n = if times n doomed == 0 then (cell_at cells n).value els
 -- the rows that commands see, in the order of their cell numbers
 abbrev pub live_rows : State → List Row
 live_rows s = filter_map (live_at s.cells (slots s.pending_out)) (range_with_len 0 (length s.cells))
-
--- the handle that the map has for a serial, if any
-abbrev pub handle_of : List (ℕ × Handle) → ℕ → Option Handle
-handle_of serials serial = lookup (nat_eq serial) serials
 
 -- the map leads from a serial only to a handle of a row that has this serial and isn't doomed, and from the serial
 -- of each such row to its handle

@@ -9,8 +9,9 @@ use Rattle.crack_arena.specs.Arena.{Handle, no_handle, times, slots, place_in, h
 use Rattle.crack_index.specs.declared.mark.Mark.{Mark}
 use Rattle.crack_index.specs.Marks.{next_mark, last_mark, start_of, end_of, raised, lowered, lowered_at}
 use Rattle.crack_arena.specs.Rows.{key_at}
+use Rattle.crack_serials.specs.Serials.{with_serial, handle_of}
 use Rattle.crack_state.specs.declared.MergeReport.{MergeReport}
-use Rattle.crack_state.specs.State.{State, Carried, handle_of, greatest}
+use Rattle.crack_state.specs.State.{State, Carried, greatest}
 
 -- the key of the row in hand
 abbrev pub hand_key : Carried → ℕ
@@ -130,7 +131,7 @@ admitted row s =
       cells = cells_with row s.cells s.free;
       free = drop 1 s.free;
       pending_in = s.pending_in ++ next_handle s ∷ [];
-      serials = s.serials ++ (row.serial.0, next_handle s) ∷ [];
+      serials = with_serial row.serial.0 (next_handle s) s.serials;
       in_room = s.in_room - 1;
     }
 

@@ -14,7 +14,7 @@ use Rattle.crack_arena.specs.Arena.{Cell, Handle, no_handle}
 use Rattle.crack_arena.specs.Rows.{key_at}
 use Rattle.crack_index.specs.declared.index.Piece.{Piece}
 use Rattle.crack_index.specs.declared.mark.Mark.{Mark}
-use Rattle.crack_index.specs.Marks.{Rising, HasBound, added, next_mark, last_mark, start_of, end_of, Fits}
+use Rattle.crack_index.specs.Marks.{Rising, HasBound, with_mark, next_mark, last_mark, start_of, end_of, Fits}
 use Rattle.crack_index.proofs.MarkLaws.{next_mark-is, next_mark-none, last_mark-is, last_mark-none, HasBound-mark, HasBound-contains, HasBound-added, Fits-piece}
 use Rattle.crack_arena.specs.Memories.{Memory, nothing, memory_at}
 use Rattle.crack_column.specs.Column.{Cracks}
@@ -54,7 +54,7 @@ absent_bound bound marks rising other there =
         apart n.bound refl (omega (arith, most, is, last.below))
 
 -- a bound that is added above a number leaves the last mark up to it
-last_mark-added_above : (number : ℕ) (m : Mark) (marks : List Mark) → number < m.bound.0 → last_mark number (added m marks) ≡ last_mark number marks
+last_mark-added_above : (number : ℕ) (m : Mark) (marks : List Mark) → number < m.bound.0 → last_mark number (with_mark m marks) ≡ last_mark number marks
 last_mark-added_above number m [] above = rw (lt-leb m.bound.0 number above) refl
 last_mark-added_above number m (n ∷ ns) above = elim (cases_lt m.bound.0 n.bound.0) [
   | inl l ↦ rw (lt-ltb m.bound.0 n.bound.0 l, lt-leb m.bound.0 number above, lt-leb n.bound.0 number (omega arith)) refl
@@ -73,7 +73,7 @@ next_above number (n ∷ ns) x found = elim (cases_lt number n.bound.0) [
 ]
 
 -- and is the next mark, if that isn't above it
-next_mark-added_behind : (number : ℕ) (m : Mark) (marks : List Mark) (x : Mark) → next_mark number marks ≡ Some x → x.bound.0 ≤ m.bound.0 → next_mark number (added m marks) ≡ Some x
+next_mark-added_behind : (number : ℕ) (m : Mark) (marks : List Mark) (x : Mark) → next_mark number marks ≡ Some x → x.bound.0 ≤ m.bound.0 → next_mark number (with_mark m marks) ≡ Some x
 next_mark-added_behind number m [] x found below = absurd (cc)
 next_mark-added_behind number m (n ∷ ns) x found below = elim (cases_lt number n.bound.0) [
   | inl l ↦
@@ -92,7 +92,7 @@ next_mark-added_behind number m (n ∷ ns) x found below = elim (cases_lt number
 ]
 
 -- a number between a bound that is added and the next one has that bound below it, and the same one above
-next_mark-added_within : (number : ℕ) (m : Mark) (marks : List Mark) → m.bound.0 ≤ number → All (λ n. m.bound.0 < n.bound.0 → number < n.bound.0) marks → next_mark number (added m marks) ≡ next_mark m.bound.0 marks
+next_mark-added_within : (number : ℕ) (m : Mark) (marks : List Mark) → m.bound.0 ≤ number → All (λ n. m.bound.0 < n.bound.0 → number < n.bound.0) marks → next_mark number (with_mark m marks) ≡ next_mark m.bound.0 marks
 next_mark-added_within number m [] order behind = rw (le-ltb number m.bound.0 order) refl
 next_mark-added_within number m (n ∷ ns) order behind = elim (cases_lt m.bound.0 n.bound.0) [
   | inl l ↦
@@ -103,7 +103,7 @@ next_mark-added_within number m (n ∷ ns) order behind = elim (cases_lt m.bound
       rw (le-ltb m.bound.0 n.bound.0 l, le-ltb number n.bound.0 (omega arith)) rest
 ]
 
-last_mark-added_within : (number : ℕ) (m : Mark) (marks : List Mark) → m.bound.0 ≤ number → All (λ n. m.bound.0 < n.bound.0 → number < n.bound.0) marks → last_mark number (added m marks) ≡ Some m
+last_mark-added_within : (number : ℕ) (m : Mark) (marks : List Mark) → m.bound.0 ≤ number → All (λ n. m.bound.0 < n.bound.0 → number < n.bound.0) marks → last_mark number (with_mark m marks) ≡ Some m
 last_mark-added_within number m [] order behind = rw (le-leb m.bound.0 number order) refl
 last_mark-added_within number m (n ∷ ns) order behind = elim (cases_lt m.bound.0 n.bound.0) [
   | inl l ↦
@@ -150,7 +150,7 @@ next_behind s low high order within = by_next (next_mark low s.marks) refl order
     by_next (Some m) is h = (m, sym is, h)
 
 -- the low end is still missing, in the same piece
-pub missing_after : (s u : State) (high : Mark) (low : ℕ) (piece : Piece) → MissesIn s low piece → IsMissing s high.bound.0 → bound_above s low ≤ high.bound.0 → RefinesAt s u high.bound.0 → u.marks ≡ added high s.marks → MissesIn u low piece
+pub missing_after : (s u : State) (high : Mark) (low : ℕ) (piece : Piece) → MissesIn s low piece → IsMissing s high.bound.0 → bound_above s low ≤ high.bound.0 → RefinesAt s u high.bound.0 → u.marks ≡ with_mark high s.marks → MissesIn u low piece
 missing_after s u high low piece misses missing order refined marks =
     let keys = keys-refined (λ b. (b ≡ high.bound.0) × (s.keys.low < b) × (b < s.keys.high)) s u refined in
     let next = next_behind s low high.bound.0 order missing.high in
@@ -305,18 +305,18 @@ module _ (s u : State) (low high : InnerBound) (handles : List Handle) (known kn
       Refines-both s halfway u r low.0 high.0 (inl (is_low, is_high)) (RefinesAt-cracked s halfway [] low first intact) (RefinesAt-cracked halfway u [] high second halfway_intact)
 
   -- the high end may be added where it is, after the low one
-  second_fits : Fits (record { bound = high; position = b }) (added low_mark s.marks)
-  second_fits = Fits-piece (record { bound = high; position = b }) (length handles) (added low_mark s.marks) halfway_intact.rising (omega (arith, starts, rises)) (omega (arith, stops, d.high))
+  second_fits : Fits (record { bound = high; position = b }) (with_mark low_mark s.marks)
+  second_fits = Fits-piece (record { bound = high; position = b }) (length handles) (with_mark low_mark s.marks) halfway_intact.rising (omega (arith, starts, rises)) (omega (arith, stops, d.high))
 
-  second_absent : HasBound (added low_mark s.marks) high.0 → ⊥
+  second_absent : HasBound (with_mark low_mark s.marks) high.0 → ⊥
   second_absent = second.missing
 
 -- the store after a crack in three of the piece into which two bounds fall, and what holds while they are added
 pub record IsThree (s u : State) (gap : Gap) (high : InnerBound) (a b : ℕ) : Type 0 where
   pub intact : IsIntact u []
   pub refined : Refines s u (record { low = gap.bound.0; high = high.0 })
-  pub fits : Fits (record { bound = high; position = b }) (added (record { bound = gap.bound; position = a }) s.marks)
-  pub absent : HasBound (added (record { bound = gap.bound; position = a }) s.marks) high.0 → ⊥
+  pub fits : Fits (record { bound = high; position = b }) (with_mark (record { bound = gap.bound; position = a }) s.marks)
+  pub absent : HasBound (with_mark (record { bound = gap.bound; position = a }) s.marks) high.0 → ⊥
 
 pub three : (s u : State) (gap : Gap) (high : InnerBound) (handles : List Handle) (known known' : List Memory) (a b : ℕ) → IsIntact s [] → FallTogether s gap high
     → Cracks s.cells gap.bound.0 gap.piece.from gap.piece.to s.column known handles known' a → Cracks s.cells high.0 gap.piece.from gap.piece.to s.column known handles known' b → a ≤ b → length known ≡ length s.column → u ≡ cracked_at high b handles (cracked_at gap.bound a handles s)
@@ -342,7 +342,7 @@ Refines-one s u r bound refined missing end others = record {
   long = refined.long;
   pieces = refined.pieces;
   kept = refined.kept;
-  added = λ b inner. elim (cases_eq b bound) [
+  with_mark = λ b inner. elim (cases_eq b bound) [
     | inl e ↦ refined.added b (e, inner.1, inner.2)
     | inr ne ↦
         let at = HasBound-contains s.marks b (others b inner ne) in

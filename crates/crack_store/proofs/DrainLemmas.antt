@@ -13,7 +13,7 @@ use Rattle.crack_arena.specs.Rows.{key_at}
 use Rattle.crack_column.specs.declared.draining.Doomed.{Doomed}
 use Rattle.crack_arena.specs.Memories.{Memory, Remembers}
 use Rattle.crack_column.specs.Column.{StillRemembers}
-use Rattle.crack_column.specs.Drains.{count_below, doomed_key, doomed_handle, drained_once, drained, drawn_once, drawn, is_under, left_by}
+use Rattle.crack_column.specs.Drains.{doomed_below, doomed_key, doomed_handle, drained_once, drained, drawn_once, drawn, is_under, left_drained}
 use Rattle.crack_arena.proofs.Remembering.{Remembers-take}
 use Rattle.crack_index.specs.declared.mark.Mark.{Mark}
 use Rattle.crack_index.specs.Marks.{Rising}
@@ -29,7 +29,7 @@ use Rattle.crack_state.proofs.AllPulledLaws.{IsDrained-in_bulk}
 use Rattle.crack_state.proofs.FallLaws.{AreBuried as Bulk, count_under, fallen_by, AreCounted-in_bulk}
 use Rattle.crack_row.specs.Ranges.{Range}
 use Rattle.crack_store.specs.declared.draining.Drain.{Drain}
-use Rattle.crack_store.specs.Drainings.{doomed_of, IsReady, Passes, Empties, IsDrainedTo, AreBuried, CanBePulled}
+use Rattle.crack_store.specs.Drainings.{doomed_of, IsDrainReady, DrainPasses, Empties, IsDrainedTo, AreBuried, CanBePulled}
 
 -- a list up to a place, and on to a later one
 up-to : (a b : ℕ) (hs : List Handle) → a ≤ b → take b hs ≡ take a hs ++ between a b hs
@@ -45,24 +45,24 @@ module _ (cells : List (Cell Row)) (hs : List Handle) where
   ds = map (doomed_of cells) hs
 
   -- doomed rows have the effect of their handles
-  pub map-drained : (low : ℕ) (high : Option InnerBound) (own : Handle → Bool) → ((h : Handle) → is_under high (key h) ≡ own h) → (gs rows : List Handle) → (left_by low high (map (doomed_of cells) gs) rows ≡ drained key itself low own gs rows) × (drawn doomed_key doomed_handle low (λ d. is_under high d.key) (map (doomed_of cells) gs) rows ≡ drawn key itself low own gs rows)
+  pub map-drained : (low : ℕ) (high : Option InnerBound) (own : Handle → Bool) → ((h : Handle) → is_under high (key h) ≡ own h) → (gs rows : List Handle) → (left_drained low high (map (doomed_of cells) gs) rows ≡ drained key itself low own gs rows) × (drawn doomed_key doomed_handle low (λ d. is_under high d.key) (map (doomed_of cells) gs) rows ≡ drawn key itself low own gs rows)
   map-drained low high own owns [] rows = (refl, refl)
   map-drained low high own owns (g ∷ gs) rows =
       let d = doomed_of cells g in
       let once : drained_once doomed_key doomed_handle low (λ e. is_under high e.key) d rows ≡ drained_once key itself low own g rows = rw (owns g) refl in
       let count : drawn_once doomed_key doomed_handle low (λ e. is_under high e.key) d rows ≡ drawn_once key itself low own g rows = rw (owns g) refl in
       let rest = map-drained low high own owns gs (drained_once key itself low own g rows) in
-      (ap (left_by low high (map (doomed_of cells) gs)) once ∙ rest.0, rw (once, count) (ap (λ n. drawn_once key itself low own g rows + n) rest.1))
+      (ap (left_drained low high (map (doomed_of cells) gs)) once ∙ rest.0, rw (once, count) (ap (λ n. drawn_once key itself low own g rows + n) rest.1))
 
   -- a bound falls by as many as are below it
   abbrev pub fall : Mark → Mark
-  fall m = record m { position = m.position - count_below m.bound.0 ds }
+  fall m = record m { position = m.position - doomed_below m.bound.0 ds }
 
   -- the rows before the gap, and those from the next piece on
   pub record At (v : Drain) (front rows : List Handle) : Type 0 where
-    pub ready : IsReady v
+    pub ready : IsDrainReady v
     pub doomed_are : v.doomed.items ≡ ds
-    pub counted : count_below v.low ds ≡ v.gap
+    pub counted : doomed_below v.low ds ≡ v.gap
     pub front_is : take (v.from - v.gap) v.column.handles ≡ front
     pub rows_is : drop v.from v.column.handles ≡ rows
     pub small : v.pulled ≤ greatest
@@ -101,24 +101,24 @@ module _ (cells : List (Cell Row)) (hs : List Handle) where
   -- one bound is passed
   record IsOn (v y : Drain) (m : Mark) (ns : List Mark) (front rows : List Handle) (end made : ℕ) : Type 0 where
     at : At y (front ++ drained key itself v.low (ends_above key itself m.bound) hs (take (m.position - v.from) rows)) (drop (m.position - v.from) rows)
-    falls : end ≡ m.position - count_below m.bound.0 ds
+    falls : end ≡ m.position - doomed_below m.bound.0 ds
     start : y.from - y.gap ≡ end
     rest : marks_of end (pulled key itself m.bound.0 hs (cut m.position ns (drop (m.position - v.from) rows))) ≡ map fall ns
     drew : made ≡ drawn key itself v.low (ends_above key itself m.bound) hs (take (m.position - v.from) rows)
 
-  passed : (v y : Drain) (m : Mark) (ns : List Mark) (front rows : List Handle) (end : ℕ) (p : Passes v m end y) → At v front rows → v.from ≤ m.position → m.position ≤ length v.column.handles → count_below m.bound.0 ds ≤ m.position → marks_of (v.from - v.gap) (left_of v (m ∷ ns) rows) ≡ map fall (m ∷ ns) → IsOn v y m ns front rows end p.made
+  passed : (v y : Drain) (m : Mark) (ns : List Mark) (front rows : List Handle) (end : ℕ) (p : DrainPasses v m end y) → At v front rows → v.from ≤ m.position → m.position ≤ length v.column.handles → doomed_below m.bound.0 ds ≤ m.position → marks_of (v.from - v.gap) (left_of v (m ∷ ns) rows) ≡ map fall (m ∷ ns) → IsOn v y m ns front rows end p.made
   passed v y m ns front rows end p at from to few marks =
-      let D = p.drains (ap (count_below v.low) at.doomed_are ∙ at.counted) in
+      let D = p.drains (ap (doomed_below v.low) at.doomed_are ∙ at.counted) in
       let start : ℕ = v.from - v.gap in
       let own : Handle → Bool = ends_above key itself m.bound in
       let mine : List Handle = take (m.position - v.from) rows in
       let piece : List Handle = drained key itself v.low own hs mine in
       let here : between v.from m.position v.column.handles ≡ mine = ap (take (m.position - v.from)) at.rows_is in
       let mapped = map-drained v.low (Some m.bound) own (λ h. refl) hs mine in
-      let left_is : left_by v.low (Some m.bound) v.doomed.items (between v.from m.position v.column.handles) ≡ piece = ap (λ es. left_by v.low (Some m.bound) es (between v.from m.position v.column.handles)) at.doomed_are ∙ ap (left_by v.low (Some m.bound) ds) here ∙ mapped.0 in
+      let left_is : left_drained v.low (Some m.bound) v.doomed.items (between v.from m.position v.column.handles) ≡ piece = ap (λ es. left_drained v.low (Some m.bound) es (between v.from m.position v.column.handles)) at.doomed_are ∙ ap (left_drained v.low (Some m.bound) ds) here ∙ mapped.0 in
       let ends : end ≡ start + length piece = D.end_is ∙ ap (λ ys. start + length ys) left_is in
       let Q : Pieces Handle = pulled key itself m.bound.0 hs (cut m.position ns (drop (m.position - v.from) rows)) in
-      let head : start + length piece ≡ m.position - count_below m.bound.0 ds = ap (λ ms. (get_or ms 0 m).position) marks in
+      let head : start + length piece ≡ m.position - doomed_below m.bound.0 ds = ap (λ ms. (get_or ms 0 m).position) marks in
       let tail : marks_of (start + length piece) Q ≡ map fall ns = ap (drop 1) marks in
       let split = up-to start end y.column.handles p.from_end in
       let before : take start y.column.handles ≡ front = D.front ∙ at.front_is in
@@ -130,7 +130,7 @@ module _ (cells : List (Cell Row)) (hs : List Handle) where
         at = record {
           ready = record { gap = omega (arith, p.from_is, p.gap_is); within = omega (arith, p.from_is, p.long, to) };
           doomed_are = ap (λ d. d.items) p.doomed_are ∙ at.doomed_are;
-          counted = ap (λ n. count_below n ds) p.low_is ∙ omega (arith, p.gap_is, ends, head, few);
+          counted = ap (λ n. doomed_below n ds) p.low_is ∙ omega (arith, p.gap_is, ends, head, few);
           front_is = ap (λ n. take n y.column.handles) gap ∙ split ∙ rw (before, between_is) refl;
           rows_is = ap (λ n. drop n y.column.handles) p.from_is ∙ D.behind ∙ ap (λ n. drop n v.column.handles) (sym on) ∙ sym (drop-drop (m.position - v.from) v.from v.column.handles) ∙ ap (drop (m.position - v.from)) at.rows_is;
           small = omega (arith, p.pulled_is);
@@ -141,7 +141,7 @@ module _ (cells : List (Cell Row)) (hs : List Handle) where
         drew = drawn_is;
       }
 
-  pub through : (ms : List Mark) (least end : ℕ) (ms' : List Mark) (v w : Drain) (front rows : List Handle) → At v front rows → least ≤ v.from - v.gap → All (λ m. (v.from ≤ m.position) × (m.position ≤ length v.column.handles)) ms → Rising ms → All (λ m. count_below m.bound.0 ds ≤ m.position) ms → marks_of (v.from - v.gap) (left_of v ms rows) ≡ map fall ms → Places Empties least ms v ms' w end → IsThrough v w front rows ms ms' end
+  pub through : (ms : List Mark) (least end : ℕ) (ms' : List Mark) (v w : Drain) (front rows : List Handle) → At v front rows → least ≤ v.from - v.gap → All (λ m. (v.from ≤ m.position) × (m.position ≤ length v.column.handles)) ms → Rising ms → All (λ m. doomed_below m.bound.0 ds ≤ m.position) ms → marks_of (v.from - v.gap) (left_of v ms rows) ≡ map fall ms → Places Empties least ms v ms' w end → IsThrough v w front rows ms ms' end
   through ms least end ms' v w front rows at low inside rising few marks (Places.done n x) =
       let none : min (x.pulled + 0) greatest ≡ x.pulled = min-eq_left (omega (arith, at.small)) ∙ omega arith in
       record {
@@ -165,14 +165,14 @@ module _ (cells : List (Cell Row)) (hs : List Handle) where
   through ms least end ms' v w front rows at low inside rising few marks (Places.goes_on n place l m ns ns' x y z told rest) =
       let b = All-head (λ k. (x.from ≤ k.position) × (k.position ≤ length x.column.handles)) m ns inside in
       let p = told b.0 b.1 in
-      let one = passed x y m ns front rows place p at b.0 b.1 (All-head (λ k. count_below k.bound.0 ds ≤ k.position) m ns few) marks in
+      let one = passed x y m ns front rows place p at b.0 b.1 (All-head (λ k. doomed_below k.bound.0 ds ≤ k.position) m ns few) marks in
       let clamp : max place n ≡ place = omega (arith, p.from_end, low) in
       let inside_on : All (λ k. (y.from ≤ k.position) × (k.position ≤ length y.column.handles)) ns = λ k e h.
       let order = rising zero (suc k) e (omega arith) (omega (arith, h)) in
       let was = All-tail (λ j. (x.from ≤ j.position) × (j.position ≤ length x.column.handles)) m ns inside k e h in
       (omega (arith, order.positions, p.from_is), omega (arith, was.1, p.long)) in
       let rising_on : Rising ns = λ i j e h k. rising (suc i) (suc j) e (omega (arith, h)) (omega (arith, k)) in
-      let few_on = All-tail (λ k. count_below k.bound.0 ds ≤ k.position) m ns few in
+      let few_on = All-tail (λ k. doomed_below k.bound.0 ds ≤ k.position) m ns few in
       let behind : List Handle = drop (m.position - x.from) rows in
       let piece : List Handle = drained key itself x.low (ends_above key itself m.bound) hs (take (m.position - x.from) rows) in
       let marks_on : marks_of (y.from - y.gap) (left_of y ns behind) ≡ map fall ns = rw (one.start, p.low_is, p.from_is) one.rest in
@@ -195,7 +195,7 @@ module _ (cells : List (Cell Row)) (hs : List Handle) where
         low_is = all.low_is ∙ ap (λ n. last_low n ns) p.low_is;
         from_is = all.from_is ∙ ap (λ n. last_from n ns) p.from_is;
         on = omega (arith, b.0, p.from_is, all.on);
-        behind = all.behind ∙ later y.column.handles x.column.handles m.position z.from (omega (arith, p.from_is, all.on)) (p.drains (ap (count_below x.low) at.doomed_are ∙ at.counted)).behind;
+        behind = all.behind ∙ later y.column.handles x.column.handles m.position z.from (omega (arith, p.from_is, all.on)) (p.drains (ap (doomed_below x.low) at.doomed_are ∙ at.counted)).behind;
         stop = all.stop;
       }
     where
@@ -241,26 +241,26 @@ module _ (s : State) (ds : List Doomed) (intact : IsIntact s []) (can : CanBePul
       let key = key_at s.cells in
       let ms = s.marks in
       let same : ds ≡ map (doomed_of s.cells) gs = can.are in
-      let none_below : (es : List Doomed) → count_below 0 es ≡ 0 = no_one in
+      let none_below : (es : List Doomed) → doomed_below 0 es ≡ 0 = no_one in
       let start : v.from - v.gap ≡ 0 = omega (arith, from_is, gap_is) in
       let at : At s.cells gs v [] s.column = record {
         ready = record { gap = omega (arith, from_is, gap_is); within = omega (arith, from_is) };
         doomed_are = doomed_is ∙ same;
-        counted = ap (λ n. count_below n (map (doomed_of s.cells) gs)) low_is ∙ none_below (map (doomed_of s.cells) gs) ∙ sym gap_is;
+        counted = ap (λ n. doomed_below n (map (doomed_of s.cells) gs)) low_is ∙ none_below (map (doomed_of s.cells) gs) ∙ sym gap_is;
         front_is = ap (λ n. take n v.column.handles) start;
         rows_is = ap (λ n. drop n v.column.handles) from_is ∙ column_is;
         small = omega (arith, tally_is, intact.counted.pulled);
       } in
-      let falls : marks_of 0 after ≡ map (λ (m : Mark). record m { position = m.position - count_below m.bound.0 ds }) ms = sym (buried-column gs unburied).1 ∙ can.marks in
-      let falls_too : marks_of (v.from - v.gap) (left_of s.cells gs v ms s.column) ≡ map (fall s.cells gs) ms = rw (start, low_is, from_is) (falls ∙ ap (λ es. map (λ (m : Mark). record m { position = m.position - count_below m.bound.0 es }) ms) same) in
-      let few : All (λ m. count_below m.bound.0 (map (doomed_of s.cells) gs) ≤ m.position) ms = λ k e h. rw (← same) (can.few k e h) in
+      let falls : marks_of 0 after ≡ map (λ (m : Mark). record m { position = m.position - doomed_below m.bound.0 ds }) ms = sym (buried-column gs unburied).1 ∙ can.marks in
+      let falls_too : marks_of (v.from - v.gap) (left_of s.cells gs v ms s.column) ≡ map (fall s.cells gs) ms = rw (start, low_is, from_is) (falls ∙ ap (λ es. map (λ (m : Mark). record m { position = m.position - doomed_below m.bound.0 es }) ms) same) in
+      let few : All (λ m. doomed_below m.bound.0 (map (doomed_of s.cells) gs) ≤ m.position) ms = λ k e h. rw (← same) (can.few k e h) in
       let inside : All (λ m. (v.from ≤ m.position) × (m.position ≤ length v.column.handles)) ms = λ k e h. (omega (arith, from_is), omega (arith, (intact.obeyed k e h).within, length-map s.column key, ap length column_is)) in
       let all = through s.cells gs ms 0 end ms' v w [] s.column at (omega arith) inside intact.rising few falls_too placed in
-      let D = last_one.drains (ap (count_below w.low) all.at.doomed_are ∙ all.at.counted) in
+      let D = last_one.drains (ap (doomed_below w.low) all.at.doomed_are ∙ all.at.counted) in
       let own : Handle → Bool = any_doomed key itself in
       let rest : between w.from (length w.column.handles) w.column.handles ≡ all.rows' = ap (λ ys. take (length w.column.handles - w.from) ys) all.at.rows_is ∙ take_all (length w.column.handles - w.from) all.rows' (omega (arith, ap length all.at.rows_is, length-drop w.from w.column.handles)) in
       let mapped = map-drained s.cells gs w.low None own (λ h. refl) gs all.rows' in
-      let left_is : left_by w.low None w.doomed.items (between w.from (length w.column.handles) w.column.handles) ≡ drained key itself w.low own gs all.rows' = ap (λ es. left_by w.low None es (between w.from (length w.column.handles) w.column.handles)) all.at.doomed_are ∙ ap (left_by w.low None (map (doomed_of s.cells) gs)) rest ∙ mapped.0 in
+      let left_is : left_drained w.low None w.doomed.items (between w.from (length w.column.handles) w.column.handles) ≡ drained key itself w.low own gs all.rows' = ap (λ es. left_drained w.low None es (between w.from (length w.column.handles) w.column.handles)) all.at.doomed_are ∙ ap (left_drained w.low None (map (doomed_of s.cells) gs)) rest ∙ mapped.0 in
       let drew : last_one.made ≡ drawn key itself w.low own gs all.rows' = D.pulled_is ∙ ap (λ es. drawn doomed_key doomed_handle w.low (λ d. is_under None d.key) es (between w.from (length w.column.handles) w.column.handles)) all.at.doomed_are ∙ ap (drawn doomed_key doomed_handle w.low (λ d. is_under None d.key) (map (doomed_of s.cells) gs)) rest ∙ mapped.1 in
       let ends : last_one.end ≡ (w.from - w.gap) + length (drained key itself w.low own gs all.rows') = D.end_is ∙ ap (λ ys. (w.from - w.gap) + length ys) left_is in
       let after_is : after ≡ left_of s.cells gs v ms s.column = rw (low_is, from_is) refl in
@@ -275,14 +275,14 @@ module _ (s : State) (ds : List Doomed) (intact : IsIntact s []) (can : CanBePul
       let total : all.made + last_one.made ≡ all_drawn key itself 0 gs (pieces_of s) = omega (arith, all.total, drew, all_is) in
       record {
         column_is = handles;
-        marks_are = all.marks_are ∙ sym (falls ∙ ap (λ es. map (λ (m : Mark). record m { position = m.position - count_below m.bound.0 es }) ms) same);
+        marks_are = all.marks_are ∙ sym (falls ∙ ap (λ es. map (λ (m : Mark). record m { position = m.position - doomed_below m.bound.0 es }) ms) same);
         pulled_is = last_one.pulled_is ∙ ap (λ k. min (k + last_one.made) greatest) all.pulled_is ∙ min_and v.pulled all.made last_one.made ∙ ap (λ k. min (v.pulled + k) greatest) total ∙ ap (λ k. min (k + all_drawn key itself 0 gs (pieces_of s)) greatest) tally_is;
         room_is = omega (arith, last_one.short.room_is, last_one.room, last_one.long, all.room, all.long, room_is, ap length column_is, size, ap length handles, shorter, length-map ds doomed_handle);
         doomed_are = ap (λ d. d.items) last_one.doomed_are ∙ all.at.doomed_are ∙ sym same;
         remembers = rw (last_one.short.handles_are, last_one.short.remembered_are) short;
       }
     where
-      no_one : (es : List Doomed) → count_below 0 es ≡ 0
+      no_one : (es : List Doomed) → doomed_below 0 es ≡ 0
       no_one [] = refl
       no_one (e ∷ es) = rw (le-ltb e.key 0 (omega arith)) (omega (arith, no_one es))
 
@@ -337,14 +337,14 @@ module _ (r : Range) (s : State) (ds : List Doomed) (intact : IsIntact s []) (ar
       back [] = refl
       back (h ∷ hs) = ap (λ ys. h ∷ ys) (back hs)
 
-  count-same : (bound : ℕ) → count_below bound ds ≡ count_under (key_at s.cells) bound rows
-  count-same bound = ap (count_below bound) are ∙ same rows
+  count-same : (bound : ℕ) → doomed_below bound ds ≡ count_under (key_at s.cells) bound rows
+  count-same bound = ap (doomed_below bound) are ∙ same rows
     where
-      same : (hs : List Handle) → count_below bound (map (doomed_of s.cells) hs) ≡ count_under (key_at s.cells) bound hs
+      same : (hs : List Handle) → doomed_below bound (map (doomed_of s.cells) hs) ≡ count_under (key_at s.cells) bound hs
       same [] = refl
       same (h ∷ hs) = ap (λ n. cond (nat_lt (key_at s.cells h) bound) 1 0 + n) (same hs)
 
-  falls-same : (ms : List Mark) → map (fallen_by (key_at s.cells) rows) ms ≡ map (λ (m : Mark). record m { position = m.position - count_below m.bound.0 ds }) ms
+  falls-same : (ms : List Mark) → map (fallen_by (key_at s.cells) rows) ms ≡ map (λ (m : Mark). record m { position = m.position - doomed_below m.bound.0 ds }) ms
   falls-same [] = refl
   falls-same (m ∷ ms) = rw (count-same m.bound.0, falls-same ms) refl
 

@@ -10,7 +10,7 @@ use Rattle.crack_index.specs.Places.{Places, at_place}
 use Rattle.crack_index.specs.Raises.{Raises, higher}
 use Rattle.crack_store.specs.declared.evicting.CeilingSieve.{CeilingSieve}
 use Rattle.crack_store.specs.declared.evicting.CeilingStop.{CeilingStop}
-use Rattle.crack_store.specs.Sieves.{Rises}
+use Rattle.crack_store.specs.Sieves.{SieveRises}
 use Rattle.crack_store.specs.Evictions.{RisesUnder, StandsUnder, stop_of, not_before}
 
 -- a list around one of its elements
@@ -54,7 +54,7 @@ over count last (m ∷ hs) ls ms' v w is some all raises =
     }
 
 -- below it, the rows were sifted
-under : (most last : ℕ) (ms ms' : List Mark) (v w : CeilingSieve) → All (λ m. m.bound.0 < v.ceiling) ms → Raises RisesUnder most ms v ms' w last → Raises Rises most ms v.sieve ms' w.sieve last
+under : (most last : ℕ) (ms ms' : List Mark) (v w : CeilingSieve) → All (λ m. m.bound.0 < v.ceiling) ms → Raises RisesUnder most ms v ms' w last → Raises SieveRises most ms v.sieve ms' w.sieve last
 under most last ms ms' v w all (Raises.done n x) = Raises.done n x.sieve
 under most last ms ms' v w all (Raises.stays m ns ns' x y l on) =
     Raises.stays m ns ns' x.sieve y.sieve l (under 0 l ns ns' x y (All-tail (λ k. k.bound.0 < x.ceiling) m ns all) on)
@@ -70,7 +70,7 @@ map-reversed f (m ∷ ms) = ap (map f) (reverse-append (m ∷ []) ms) ∙ map-ap
 pub record IsDown (edge : Mark) (count last : ℕ) (low high marks' : List Mark) (v w : CeilingSieve) : Type 0 where
   pub low' : List Mark
   pub after : marks' ≡ low' ++ map (higher count) (edge ∷ high)
-  pub raises : Raises Rises count (reverse low) v.sieve (reverse low') w.sieve last
+  pub raises : Raises SieveRises count (reverse low) v.sieve (reverse low') w.sieve last
 
 pub All-reversed : (P : Mark → Type 0) (ms : List Mark) → All P ms → All P (reverse ms)
 All-reversed P [] all = All-nil P

@@ -11,7 +11,7 @@ use Rattle.crack_arena.specs.Rows.{key_at, keys_at}
 use Rattle.crack_column.specs.declared.draining.Doomed.{Doomed}
 use Rattle.crack_arena.specs.Memories.{Remembers}
 use Rattle.crack_column.specs.Column.{Column}
-use Rattle.crack_column.specs.Drains.{count_below, doomed_handle, drained, drawn}
+use Rattle.crack_column.specs.Drains.{doomed_below, doomed_handle, drained, drawn}
 use Rattle.crack_index.specs.declared.mark.Mark.{Mark}
 use Rattle.crack_index.specs.Marks.{Rising}
 use Rattle.crack_index.specs.Places.{Places, at_place}
@@ -88,11 +88,11 @@ Rising-right [] hs rising = rising
 Rising-right (m ∷ ms) hs rising = Rising-right ms hs (λ i j e h k. rising (suc i) (suc j) e (omega (arith, h)) (omega (arith, k)))
 
 module _ (cells : List (Cell Row)) where
-  all-counted : (bound : ℕ) (gs : List Handle) → All (λ h. key_at cells h < bound) gs → count_below bound (map (doomed_of cells) gs) ≡ length gs
+  all-counted : (bound : ℕ) (gs : List Handle) → All (λ h. key_at cells h < bound) gs → doomed_below bound (map (doomed_of cells) gs) ≡ length gs
   all-counted bound [] under = refl
   all-counted bound (g ∷ gs) under = rw (lt-ltb (key_at cells g) bound (All-head (λ h. key_at cells h < bound) g gs under)) (omega (arith, all-counted bound gs (All-tail (λ h. key_at cells h < bound) g gs under)))
 
-  none-counted : (gs : List Handle) → count_below 0 (map (doomed_of cells) gs) ≡ 0
+  none-counted : (gs : List Handle) → doomed_below 0 (map (doomed_of cells) gs) ≡ 0
   none-counted [] = refl
   none-counted (g ∷ gs) = rw (le-ltb (key_at cells g) 0 (omega arith)) (omega (arith, none-counted gs))
 
@@ -133,7 +133,7 @@ module _ (s : State) (ds : List Doomed) (fillers : Range) (edge : Mark) (intact 
       let at : At s.cells gs v [] s.column = record {
         ready = record { gap = omega (arith, from_is, gap_is); within = omega (arith, from_is) };
         doomed_are = doomed_is ∙ can.are;
-        counted = ap (λ k. count_below k (map (doomed_of s.cells) gs)) low_is ∙ none-counted s.cells gs ∙ sym gap_is;
+        counted = ap (λ k. doomed_below k (map (doomed_of s.cells) gs)) low_is ∙ none-counted s.cells gs ∙ sym gap_is;
         front_is = ap (λ k. take k v.column.handles) start;
         rows_is = ap (λ k. drop k v.column.handles) from_is ∙ column_is;
         small = omega (arith, tally_is, intact.counted.pulled);
@@ -142,9 +142,9 @@ module _ (s : State) (ds : List Doomed) (fillers : Range) (edge : Mark) (intact 
       let rising : Rising ms = Rising-left ms can.high rising_all in
       let all_under : All (λ m. m.bound.0 ≤ edge.bound.0) ms = All-push (λ m. m.bound.0 ≤ edge.bound.0) can.low edge (lows rising) (omega arith) in
       let P = parts 0 ms can.high (record { drain = v; edge = edge.bound.0 }) ms' w end all_under (rw split at placed) in
-      let counted : count_below edge.bound.0 (map (doomed_of s.cells) gs) ≡ n = all-counted s.cells edge.bound.0 gs can.under ∙ size in
-      let same_low : All (λ m. count_below m.bound.0 (map (doomed_of s.cells) gs) ≤ m.position) can.low = λ k e h. rw (← can.are) (can.few k e h) in
-      let few : All (λ m. count_below m.bound.0 (map (doomed_of s.cells) gs) ≤ m.position) ms = All-push (λ m. count_below m.bound.0 (map (doomed_of s.cells) gs) ≤ m.position) can.low edge same_low (omega (arith, counted, can.long)) in
+      let counted : doomed_below edge.bound.0 (map (doomed_of s.cells) gs) ≡ n = all-counted s.cells edge.bound.0 gs can.under ∙ size in
+      let same_low : All (λ m. doomed_below m.bound.0 (map (doomed_of s.cells) gs) ≤ m.position) can.low = λ k e h. rw (← can.are) (can.few k e h) in
+      let few : All (λ m. doomed_below m.bound.0 (map (doomed_of s.cells) gs) ≤ m.position) ms = All-push (λ m. doomed_below m.bound.0 (map (doomed_of s.cells) gs) ≤ m.position) can.low edge same_low (omega (arith, counted, can.long)) in
       let whole : edge.position - 0 ≡ edge.position = omega arith in
       let are : AreFrom key 0 ms = record { pairs = rising; behind = λ k e h. omega arith } in
       let top = last-is key gs 0 0 can.low edge s.column are can.under in
@@ -153,7 +153,7 @@ module _ (s : State) (ds : List Doomed) (fillers : Range) (edge : Mark) (intact 
       let lower_drawn : all_drawn key itself 0 gs (cut 0 ms s.column) ≡ all_drawn key itself 0 gs (pieces_under s can.low edge) + drawn key itself edge.bound.0 (any_doomed key itself) gs (drop edge.position s.column) = rw whole at top.drew in
       let place_is : 0 + length (column_of under_edge) ≡ edge.position - n = omega (arith, can.long) in
       let edge_falls : fall s.cells gs edge ≡ record edge { position = edge.position - n } = rw counted refl in
-      let low_falls : map (fall s.cells gs) can.low ≡ marks_of 0 under_edge = ap (λ es. map (λ (m : Mark). record m { position = m.position - count_below m.bound.0 es }) can.low) (sym can.are) ∙ sym can.marks in
+      let low_falls : map (fall s.cells gs) can.low ≡ marks_of 0 under_edge = ap (λ es. map (λ (m : Mark). record m { position = m.position - doomed_below m.bound.0 es }) can.low) (sym can.are) ∙ sym can.marks in
       let all_fall : map (fall s.cells gs) ms ≡ marks_of 0 under_edge ++ record edge { position = edge.position - n } ∷ [] = map-append (fall s.cells gs) can.low (edge ∷ []) ∙ rw (low_falls, edge_falls) refl in
       let falls : marks_of (v.from - v.gap) (left_of s.cells gs v ms s.column) ≡ map (fall s.cells gs) ms = rw (start, low_is, from_is) (lower_marks ∙ ap (λ k. marks_of 0 under_edge ++ record edge { position = k } ∷ []) place_is ∙ sym all_fall) in
       let inside_all : All (λ m. (v.from ≤ m.position) × (m.position ≤ length v.column.handles)) s.marks = λ k e h. (omega (arith, from_is), omega (arith, (intact.obeyed k e h).within, length-map s.column key, ap length column_is)) in
@@ -161,7 +161,7 @@ module _ (s : State) (ds : List Doomed) (fillers : Range) (edge : Mark) (intact 
       let T = through s.cells gs ms 0 P.stop P.lower v P.mid.drain [] s.column at (omega arith) inside rising few falls P.first in
       let low_last : P.mid.drain.low ≡ edge.bound.0 = T.low_is ∙ last_low-is s.cells gs v.low can.low edge in
       let from_last : P.mid.drain.from ≡ edge.position = T.from_is ∙ last_from-is s.cells gs v.from can.low edge in
-      let gap_last : P.mid.drain.gap ≡ n = sym T.at.counted ∙ ap (λ k. count_below k (map (doomed_of s.cells) gs)) low_last ∙ counted in
+      let gap_last : P.mid.drain.gap ≡ n = sym T.at.counted ∙ ap (λ k. doomed_below k (map (doomed_of s.cells) gs)) low_last ∙ counted in
       let rest : T.rows' ≡ drop edge.position s.column = sym T.at.rows_is ∙ T.behind ∙ ap (λ k. drop k v.column.handles) from_last ∙ ap (drop edge.position) column_is in
       let left_is : column_of (left_of s.cells gs v ms s.column) ≡ column_of (pulled key itself 0 gs (cut 0 ms s.column)) = rw (low_is, from_is) refl in
       let over : List Handle = drained key itself edge.bound.0 (any_doomed key itself) gs (drop edge.position s.column) in
@@ -355,14 +355,14 @@ module _ (r fillers : Range) (s : State) (edge : Mark) (intact : IsIntact s []) 
     filled-same : (low high : List Mark) → filled_at ds fillers low edge high s ≡ filled_by r fillers n low edge high s
     filled-same low high = rw (handles-of, long-of) refl
 
-    count-same : (bound : ℕ) → count_below bound ds ≡ count_under (key_at s.cells) bound (take n rows)
-    count-same bound = ap (count_below bound) are ∙ same (take n rows)
+    count-same : (bound : ℕ) → doomed_below bound ds ≡ count_under (key_at s.cells) bound (take n rows)
+    count-same bound = ap (doomed_below bound) are ∙ same (take n rows)
       where
-        same : (hs : List Handle) → count_below bound (map (doomed_of s.cells) hs) ≡ count_under (key_at s.cells) bound hs
+        same : (hs : List Handle) → doomed_below bound (map (doomed_of s.cells) hs) ≡ count_under (key_at s.cells) bound hs
         same [] = refl
         same (h ∷ hs) = ap (λ k. cond (nat_lt (key_at s.cells h) bound) 1 0 + k) (same hs)
 
-    falls-same : (ms : List Mark) → map (fallen_by (key_at s.cells) (take n rows)) ms ≡ map (λ (m : Mark). record m { position = m.position - count_below m.bound.0 ds }) ms
+    falls-same : (ms : List Mark) → map (fallen_by (key_at s.cells) (take n rows)) ms ≡ map (λ (m : Mark). record m { position = m.position - doomed_below m.bound.0 ds }) ms
     falls-same [] = refl
     falls-same (m ∷ ms) = rw (count-same m.bound.0, falls-same ms) refl
 

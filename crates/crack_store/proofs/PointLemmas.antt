@@ -7,7 +7,8 @@ use Rattle.std.proofs.lemmas.List.{get_or-set_same}
 use Rattle.crack_arena.specs.Arena.{Cell, Handle, StandsAt, times, slots, place_in, read, empty_cell}
 use Rattle.crack_arena.proofs.Times.{times-nil, times_head}
 use Rattle.crack_row.specs.declared.Row.{Row}
-use Rattle.crack_state.specs.State.{State, IsIntact, handle_of}
+use Rattle.crack_serials.specs.Serials.{handle_of}
+use Rattle.crack_state.specs.State.{State, IsIntact}
 use Rattle.crack_state.specs.Points.{pending_by, handle_by}
 use Rattle.crack_state.proofs.OwnedLaws.{times-taken}
 use Rattle.crack_state.proofs.PointLaws.{found_by, handle_by-is, stands1, listed_at, unlisted_by}

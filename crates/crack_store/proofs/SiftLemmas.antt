@@ -28,7 +28,7 @@ use Rattle.crack_state.proofs.StepsDown.{sifted_from, made_way_from, queued-lowe
 use Rattle.crack_state.proofs.AllCarriedLaws.{IsKept, IsKept-in_bulk}
 use Rattle.crack_state.proofs.ClearLaws.{OfMet-clear}
 use Rattle.crack_store.specs.declared.sifting.Sieve.{Sieve}
-use Rattle.crack_store.specs.Sieves.{AreClear, Passes, Rises}
+use Rattle.crack_store.specs.Sieves.{AreClear, SievePasses, SieveRises}
 
 -- Parts of lists
 
@@ -65,7 +65,7 @@ drop_between xs from to order =
 -- The walk
 
 -- if no bound may rise
-nothing-rises : (most last : ℕ) (ms ms' : List Mark) (v w : Sieve) → most ≡ 0 → Raises Rises most ms v ms' w last → (ms' ≡ ms) × (w ≡ v)
+nothing-rises : (most last : ℕ) (ms ms' : List Mark) (v w : Sieve) → most ≡ 0 → Raises SieveRises most ms v ms' w last → (ms' ≡ ms) × (w ≡ v)
 nothing-rises most last ms ms' v w none (Raises.done m x) = (refl, refl)
 nothing-rises most last ms ms' v w none (Raises.stays m ns ns' x y l on) =
     let rest = nothing-rises 0 l ns ns' x y refl on in
@@ -114,7 +114,7 @@ module _ (cells : List (Cell Row)) where
   all_risen-none [] = refl
   all_risen-none (m ∷ ms) = rw (risen-none m, all_risen-none ms) refl
 
-  IsAfter-none : (most last : ℕ) (ms ms' : List Mark) (v w : Sieve) → most ≡ 0 → most ≡ v.to - v.from → IsBefore ms v → Raises Rises most ms v ms' w last → IsAfter ms ms' v w
+  IsAfter-none : (most last : ℕ) (ms ms' : List Mark) (v w : Sieve) → most ≡ 0 → most ≡ v.to - v.from → IsBefore ms v → Raises SieveRises most ms v ms' w last → IsAfter ms ms' v w
   IsAfter-none most last ms ms' v w none count before raises =
       let stays = nothing-rises most last ms ms' v w none raises in
       let gap : v.to - v.from ≡ 0 = omega (arith, none, count) in
@@ -146,7 +146,7 @@ module _ (cells : List (Cell Row)) where
     made_is : made ≡ made_way key m.bound.0 (came v) (drop m.position (stood v))
     gap : rise ≡ y.to - y.from
 
-  passed : (m : Mark) (ns : List Mark) (v y : Sieve) (rise : ℕ) (p : Passes v m rise y) → IsBefore (m ∷ ns) v → m.position ≤ v.from → IsOn m ns v y rise p.made
+  passed : (m : Mark) (ns : List Mark) (v y : Sieve) (rise : ℕ) (p : SievePasses v m rise y) → IsBefore (m ∷ ns) v → m.position ≤ v.from → IsOn m ns v y rise p.made
   passed m ns v y rise p before under =
       let h : List Handle = v.column.handles in
       let s = p.sifts cells before.read in
@@ -177,7 +177,7 @@ module _ (cells : List (Cell Row)) where
         gap = omega (arith, p.from_is, p.to_is);
       }
 
-  pub through : (most last : ℕ) (ms ms' : List Mark) (v w : Sieve) → most ≡ v.to - v.from → IsBefore ms v → Raises Rises most ms v ms' w last → IsAfter ms ms' v w
+  pub through : (most last : ℕ) (ms ms' : List Mark) (v w : Sieve) → most ≡ v.to - v.from → IsBefore ms v → Raises SieveRises most ms v ms' w last → IsAfter ms ms' v w
   through most last ms ms' v w count before (Raises.done n x) =
       let least : min (x.moved + 0) greatest ≡ x.moved = min-eq_left (omega (arith, before.counted)) ∙ omega arith in
       record {
@@ -231,7 +231,7 @@ module _ (r : Range) (s : State) (intact : IsIntact s []) where
     pub moved_is : w.moved ≡ min (s.tally.moved + all_made_way (key_at s.cells) 0 rows (pieces_of s)) greatest
     pub remembers : Remembers s.cells w.column.handles w.column.remembered
 
-  pub whole : (most last : ℕ) (ms' : List Mark) (v w : Sieve) → most ≡ length rows → v.column.handles ≡ s.column ++ rows → v.from ≡ length s.column → v.to ≡ length s.column + length rows → v.moved ≡ s.tally.moved → AreRead s.cells v.from v.to v.column → Remembers s.cells v.column.handles v.column.remembered → Raises Rises most (reverse s.marks) v (reverse ms') w last → IsSifted ms' w
+  pub whole : (most last : ℕ) (ms' : List Mark) (v w : Sieve) → most ≡ length rows → v.column.handles ≡ s.column ++ rows → v.from ≡ length s.column → v.to ≡ length s.column + length rows → v.moved ≡ s.tally.moved → AreRead s.cells v.from v.to v.column → Remembers s.cells v.column.handles v.column.remembered → Raises SieveRises most (reverse s.marks) v (reverse ms') w last → IsSifted ms' w
   whole most last ms' v w count handles from to moved read remembers raises =
       let long : length v.column.handles ≡ length s.column + length rows = ap length handles ∙ length-append s.column rows in
       let plain : s.column ++ rows ≡ s.column ++ (rows ++ []) = ap (λ ys. s.column ++ ys) (sym (append-nil rows)) in

@@ -32,7 +32,7 @@ use Rattle.crack_state.proofs.SweepLaws.{length-swept_by, length-swept_up, few-t
 use Rattle.crack_state.proofs.SweptLaws.{rows_in, sweep, unburied, hands-apart, carried-sweeping}
 use Rattle.crack_store.specs.Drainings.{AreBuried}
 use Rattle.crack_store.specs.declared.sweeping.Sweep.{Sweep}
-use Rattle.crack_store.specs.Sweepings.{ends_in, up_to, sweep_of, going_on, IsReady, IsSweptTo, Passes, Sweeps, Turns}
+use Rattle.crack_store.specs.Sweepings.{ends_in, up_to, sweep_of, going_on, IsSweepReady, IsSweptTo, SweepPasses, Sweeps, SweepTurns}
 use Rattle.crack_store.proofs.SweepLemmas.{four}
 
 -- the parts of a list of four
@@ -63,7 +63,7 @@ module _ (cells : List (Cell Row)) (out : List Handle) where
 
   -- the rows before the next piece, from it on, and after the column's last row
   pub record At (v : Sweep) (front rows tail : List Handle) : Type 0 where
-    pub ready : IsReady v
+    pub ready : IsSweepReady v
     pub cells_are : v.arena.now.cells ≡ cells
     pub out_is : v.pending_out.now.handles ≡ out
     pub handles_are : v.column.handles ≡ front ++ (rows ++ tail)
@@ -86,7 +86,7 @@ module _ (cells : List (Cell Row)) (out : List Handle) where
     made_is : made ≡ (here v.low m.bound tail (take (m.position - v.start) rows)).made
     long : length (take (m.position - v.start) rows) ≡ m.position - v.start
 
-  over : (v y : Sweep) (m : Mark) (front rows tail : List Handle) (place : ℕ) (p : Passes v m place y) → At v front rows tail → v.start ≤ m.position → m.position ≤ v.from → IsOver v y m front rows tail place p.made
+  over : (v y : Sweep) (m : Mark) (front rows tail : List Handle) (place : ℕ) (p : SweepPasses v m place y) → At v front rows tail → v.start ≤ m.position → m.position ≤ v.from → IsOver v y m front rows tail place p.made
   over v y m front rows tail place p at low high =
       let n : ℕ = m.position - v.start in
       let mine : List Handle = take n rows in
@@ -133,7 +133,7 @@ module _ (cells : List (Cell Row)) (out : List Handle) where
     pub total : made + (sweep_of cells out w.low None tail' rows').made ≡ (swept_up key (ends_in out) v.low tail (cut v.start ms rows)).made
     pub from_is : w.from ≡ v.from
 
-  through : (ms : List Mark) (least last : ℕ) (ms' : List Mark) (v w : Sweep) (front rows tail : List Handle) → At v front rows tail → least ≤ v.start + v.count → All (λ m. (v.start ≤ m.position) × (m.position ≤ v.from)) ms → All (λ m. v.low ≤ m.bound.0) ms → Rising ms → Places Turns least ms v ms' w last → IsThrough v w front rows tail ms ms'
+  through : (ms : List Mark) (least last : ℕ) (ms' : List Mark) (v w : Sweep) (front rows tail : List Handle) → At v front rows tail → least ≤ v.start + v.count → All (λ m. (v.start ≤ m.position) × (m.position ≤ v.from)) ms → All (λ m. v.low ≤ m.bound.0) ms → Rising ms → Places SweepTurns least ms v ms' w last → IsThrough v w front rows tail ms ms'
   through ms least last ms' v w front rows tail at few inside bounds rising (Places.done n x) =
       let none : min (x.moved + 0) greatest ≡ x.moved = min-eq_left (omega (arith, at.small)) ∙ omega arith in
       record {
@@ -219,7 +219,7 @@ Sweeps-off cells out low high start end from handles order before within none =
     }
 
 -- if the next piece ends at or below the floor, none turns the one above it
-pub IsReady-on : (v : Sweep) (low start : ℕ) → IsReady v → start ≤ v.from → v.low ≤ low → low ≤ v.floor.0 → IsReady (record v { low = low; start = start; count = 0 })
+pub IsReady-on : (v : Sweep) (low start : ℕ) → IsSweepReady v → start ≤ v.from → v.low ≤ low → low ≤ v.floor.0 → IsSweepReady (record v { low = low; start = start; count = 0 })
 IsReady-on v low start ready order up under =
     let above = ready.above (omega (arith, up, under)) in
     record {
@@ -259,7 +259,7 @@ module _ (r : Range) (s : State) (intact : IsIntact s []) where
     pub out_is : v.pending_out.now.handles ≡ s.pending_out
     pub remembers : Remembers v.arena.now.cells v.column.handles v.column.remembered
 
-  pub ready-begins : (v : Sweep) → Begins v → IsReady v
+  pub ready-begins : (v : Sweep) → Begins v → IsSweepReady v
   ready-begins v b =
       let rest : drop v.from v.column.handles ≡ rows_in r s intact = ap (drop v.from) b.handles_are ∙ drop_at s.column (rows_in r s intact) v.from (sym b.from_is) in
       let above : All (λ h. v.floor.0 ≤ key_at v.arena.now.cells h) (drop v.from v.column.handles) = rw (b.floor_is, b.cells_are, rest) (inside-least s.cells r s.pending_in) in
@@ -288,7 +288,7 @@ module _ (r : Range) (s : State) (intact : IsIntact s []) where
   take-done ms' z from is d =
       (ap (take from) d.handles_are ∙ take_at sw.piece sw.tail from (omega (arith, d.first, is)), ap (drop from) d.handles_are ∙ drop_at sw.piece sw.tail from (omega (arith, d.first, is)))
 
-  pub done-of : (last : ℕ) (ms' : List Mark) (v w z : Sweep) → Places Turns 0 s.marks v ms' w last → Begins v → IsSweptTo w z → IsDone ms' z
+  pub done-of : (last : ℕ) (ms' : List Mark) (v w z : Sweep) → Places SweepTurns 0 s.marks v ms' w last → Begins v → IsSweptTo w z → IsDone ms' z
   done-of last ms' v w z placed b swept_to =
       let rows : List Handle = rows_in r s intact in
       let at : At s.cells s.pending_out v [] s.column rows = record {

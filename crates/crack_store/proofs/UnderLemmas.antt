@@ -32,7 +32,7 @@ use Rattle.crack_store.specs.declared.inside.Inside.{Inside}
 use Rattle.crack_store.specs.Inside.{lists_of}
 use Rattle.crack_store.specs.Keeps.{KeepsIntact}
 use Rattle.crack_store.specs.Evictions.{AreApart}
-use Rattle.crack_store.specs.Sieves.{Rises}
+use Rattle.crack_store.specs.Sieves.{SieveRises}
 use Rattle.crack_store.proofs.ExchangeLemmas.{seam}
 use Rattle.crack_store.proofs.EvictLemmas.{around, map-reversed, All-reversed}
 use Rattle.crack_store.proofs.SiftLemmas.{Falls, IsBefore, stood, came, through}
@@ -108,7 +108,7 @@ module _ (r : Range) (s : State) (low : List Mark) (m : Mark) (high : List Mark)
     pub moved_is : w.moved ≡ min (s.tally.moved + all_made_way (key_at s.cells) 0 rows lower) greatest
     pub remembers : Remembers s.cells w.column.handles w.column.remembered
 
-  pub walked : (last : ℕ) (low' : List Mark) (v w : Sieve) → v.column.handles ≡ take m.position s.column ++ (rows ++ drop (length rows) (drop m.position s.column)) → v.from ≡ m.position → v.to ≡ m.position + length rows → v.moved ≡ s.tally.moved → AreRead s.cells v.from v.to v.column → Remembers s.cells v.column.handles v.column.remembered → Raises Rises (length rows) (reverse low) v (reverse low') w last → IsWalked low' w
+  pub walked : (last : ℕ) (low' : List Mark) (v w : Sieve) → v.column.handles ≡ take m.position s.column ++ (rows ++ drop (length rows) (drop m.position s.column)) → v.from ≡ m.position → v.to ≡ m.position + length rows → v.moved ≡ s.tally.moved → AreRead s.cells v.from v.to v.column → Remembers s.cells v.column.handles v.column.remembered → Raises SieveRises (length rows) (reverse low) v (reverse low') w last → IsWalked low' w
   walked last low' v w handles from to moved read remembers raises =
       let cells = s.cells in
       let cutting = parted s low m high intact is in

@@ -10,7 +10,7 @@ use Rattle.crack_row.specs.declared.Row.{Row}
 use Rattle.crack_column.specs.declared.draining.Doomed.{Doomed}
 use Rattle.crack_arena.specs.Memories.{Remembers}
 use Rattle.crack_column.specs.Column.{Column, StillRemembers}
-use Rattle.crack_column.specs.Drains.{count_below, doomed_handle, Drains}
+use Rattle.crack_column.specs.Drains.{doomed_below, doomed_handle, Drains}
 use Rattle.crack_index.specs.declared.mark.Mark.{Mark}
 use Rattle.crack_state.specs.State.{State, Reads, IsIntact, freed_of, greatest}
 use Rattle.crack_state.specs.Pulled.{pulled_from}
@@ -22,14 +22,14 @@ abbrev pub doomed_of : List (Cell Row) → Handle → Doomed
 doomed_of cells h = record { key = key_at cells h; handle = h }
 
 -- the gap and the next piece are in the column
-pub record IsReady (v : Drain) : Type 0 where
+pub record IsDrainReady (v : Drain) : Type 0 where
   pub gap : v.gap ≤ v.from
   pub within : v.from ≤ length v.column.handles
 
 -- the rows were pulled out of the piece below a bound, which then ends at the place `end`
-pub record Passes (v : Drain) (m : Mark) (end : ℕ) (w : Drain) : Type 0 where
+pub record DrainPasses (v : Drain) (m : Mark) (end : ℕ) (w : Drain) : Type 0 where
   pub made : ℕ
-  pub drains : count_below v.low v.doomed.items ≡ v.gap → Drains v.low (Some m.bound) v.doomed.items (v.from - v.gap) v.from m.position v.column w.column end made
+  pub drains : doomed_below v.low v.doomed.items ≡ v.gap → Drains v.low (Some m.bound) v.doomed.items (v.from - v.gap) v.from m.position v.column w.column end made
   pub from_end : v.from - v.gap ≤ end
   pub to_end : end ≤ m.position
   pub doomed_are : w.doomed ≡ v.doomed
@@ -43,7 +43,7 @@ pub record Passes (v : Drain) (m : Mark) (end : ℕ) (w : Drain) : Type 0 where
 
 -- the rows are pulled out of the piece below a bound, if the bound is after the gap
 abbrev pub Empties : Drain → Mark → ℕ → Drain → Type 0
-Empties v m end w = v.from ≤ m.position → m.position ≤ length v.column.handles → Passes v m end w
+Empties v m end w = v.from ≤ m.position → m.position ≤ length v.column.handles → DrainPasses v m end w
 
 -- the last rows of a column are removed, down to `len` rows
 pub record IsShortened (len : ℕ) (old new : Column) : Type 0 where
@@ -56,7 +56,7 @@ pub record IsDrainedTo (v w : Drain) : Type 0 where
   pub made : ℕ
   pub end : ℕ
   pub drained : Column
-  pub drains : count_below v.low v.doomed.items ≡ v.gap → Drains v.low None v.doomed.items (v.from - v.gap) v.from (length v.column.handles) v.column drained end made
+  pub drains : doomed_below v.low v.doomed.items ≡ v.gap → Drains v.low None v.doomed.items (v.from - v.gap) v.from (length v.column.handles) v.column drained end made
   pub within : end ≤ length v.column.handles
   pub long : length drained.handles ≡ length v.column.handles
   pub room : drained.room ≡ v.column.room
@@ -83,7 +83,7 @@ pub record KeepsKeys (p q : Inside) : Type 0 where
 pub record CanBePulled (ds : List Doomed) (s : State) : Type 0 where
   pub are : ds ≡ map (doomed_of s.cells) (map doomed_handle ds)
   pub intact : IsIntact (pulled_from (map doomed_handle ds) s) []
-  pub marks : (pulled_from (map doomed_handle ds) s).marks ≡ map (λ (m : Mark). record m { position = m.position - count_below m.bound.0 ds }) s.marks
-  pub few : All (λ m. count_below m.bound.0 ds ≤ m.position) s.marks
+  pub marks : (pulled_from (map doomed_handle ds) s).marks ≡ map (λ (m : Mark). record m { position = m.position - doomed_below m.bound.0 ds }) s.marks
+  pub few : All (λ m. doomed_below m.bound.0 ds ≤ m.position) s.marks
   pub long : length (pulled_from (map doomed_handle ds) s).column + length ds ≡ length s.column
   pub buried : AreBuried (map doomed_handle ds) s.cells s.pending_out

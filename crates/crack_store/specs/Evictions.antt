@@ -17,12 +17,12 @@ use Rattle.crack_state.specs.Merge.{outside_of}
 use Rattle.crack_store.specs.declared.sifting.Sieve.{Sieve}
 use Rattle.crack_store.specs.declared.evicting.CeilingSieve.{CeilingSieve}
 use Rattle.crack_store.specs.declared.evicting.CeilingStop.{CeilingStop}
-use Rattle.crack_store.specs.Sieves.{Rises}
+use Rattle.crack_store.specs.Sieves.{SieveRises}
 
 -- a bound from the ceiling on rises by the number of rows that come in; at a bound below it rows are sifted
 pub record RisesUnder (v : CeilingSieve) (m : Mark) (rise : ℕ) (w : CeilingSieve) : Type 0 where
   pub over : v.ceiling ≤ m.bound.0 → (rise ≡ v.count) × (w ≡ v)
-  pub under : m.bound.0 < v.ceiling → Rises v.sieve m rise w.sieve
+  pub under : m.bound.0 < v.ceiling → SieveRises v.sieve m rise w.sieve
   pub ceiling_is : w.ceiling ≡ v.ceiling
   pub count_is : w.count ≡ v.count
 
@@ -46,7 +46,7 @@ pub record IsSiftedBelow (edge : Mark) (count : ℕ) (marks : List Mark) (v : Si
   pub last : ℕ
   pub before : marks ≡ low ++ edge ∷ high
   pub after : marks' ≡ low' ++ map (not_before (edge.position + count)) (edge ∷ high)
-  pub raises : Raises Rises count (reverse low) v (reverse low') w last
+  pub raises : Raises SieveRises count (reverse low) v (reverse low') w last
 
 -- no cell has two handles in these lists, and each cell of the first list is below `covered`
 pub record AreApart (covered : ℕ) (xs ys : List Handle) : Type 0 where

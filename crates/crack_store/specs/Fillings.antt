@@ -14,7 +14,7 @@ use Rattle.crack_state.specs.Filled.{lacking, pieces_under, filled_from}
 use Rattle.crack_column.specs.declared.draining.Doomed.{Doomed}
 use Rattle.crack_arena.specs.Memories.{Remembers}
 use Rattle.crack_column.specs.Column.{Column}
-use Rattle.crack_column.specs.Drains.{count_below, doomed_handle}
+use Rattle.crack_column.specs.Drains.{doomed_below, doomed_handle}
 use Rattle.crack_index.specs.declared.mark.Mark.{Mark}
 use Rattle.crack_pending.specs.Pending.{Pending}
 use Rattle.crack_state.specs.State.{State, IsIntact}
@@ -60,8 +60,8 @@ pub record CanBeFilled (ds : List Doomed) (fillers : Range) (edge : Mark) (s : S
   pub under : All (λ h. key_at s.cells h < edge.bound.0) (map doomed_handle ds)
   pub enough : length ds ≤ length (inside_of s.cells fillers s.pending_in)
   pub intact : IsIntact (filled_at ds fillers low edge high s) []
-  pub marks : marks_of 0 (pulled (key_at s.cells) itself 0 (map doomed_handle ds) (pieces_under s low edge)) ≡ map (λ (m : Mark). record m { position = m.position - count_below m.bound.0 ds }) low
-  pub few : All (λ m. count_below m.bound.0 ds ≤ m.position) low
+  pub marks : marks_of 0 (pulled (key_at s.cells) itself 0 (map doomed_handle ds) (pieces_under s low edge)) ≡ map (λ (m : Mark). record m { position = m.position - doomed_below m.bound.0 ds }) low
+  pub few : All (λ m. doomed_below m.bound.0 ds ≤ m.position) low
   pub long : length (column_of (pulled (key_at s.cells) itself 0 (map doomed_handle ds) (pieces_under s low edge))) + length ds ≡ edge.position
   pub buried : AreBuried (map doomed_handle ds) s.cells s.pending_out
 

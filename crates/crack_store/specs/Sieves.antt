@@ -13,12 +13,12 @@ use Rattle.crack_state.specs.Steps.{piece_start, piece_end}
 use Rattle.crack_store.specs.declared.sifting.Sieve.{Sieve}
 
 -- the rows that came in are in the column
-pub record IsReady (v : Sieve) : Type 0 where
+pub record IsSieveReady (v : Sieve) : Type 0 where
   pub order : v.from ≤ v.to
   pub within : v.to ≤ length v.column.handles
 
 -- the rows that came in were sifted through the piece above a bound, which rises by `rise`
-pub record Passes (v : Sieve) (m : Mark) (rise : ℕ) (w : Sieve) : Type 0 where
+pub record SievePasses (v : Sieve) (m : Mark) (rise : ℕ) (w : Sieve) : Type 0 where
   pub made : ℕ
   pub sifts : (cells : List (Cell Row)) → AreRead cells v.from v.to v.column → Sifts cells m.bound.0 m.position v.from v.to v.column w.column rise made
   pub few : rise ≤ v.to - v.from
@@ -31,8 +31,8 @@ pub record Passes (v : Sieve) (m : Mark) (rise : ℕ) (w : Sieve) : Type 0 where
 
 -- the rows that came in are sifted at a bound that isn't after them, and the bound rises by the number of them
 -- below it
-abbrev pub Rises : Sieve → Mark → ℕ → Sieve → Type 0
-Rises v m rise w = m.position ≤ v.from → Passes v m rise w
+abbrev pub SieveRises : Sieve → Mark → ℕ → Sieve → Type 0
+SieveRises v m rise w = m.position ≤ v.from → SievePasses v m rise w
 
 -- the row isn't among the first `count` rows of its piece
 abbrev pub IsClear : ℕ → State → Handle → Type 0

@@ -41,7 +41,7 @@ pub record Sweeps (cells : List (Cell Row)) (out : List Handle) (low : ℕ) (hig
   pub made_is : made ≡ (sweep_of cells out low high (drop from handles) (between start end handles)).made
 
 -- the next piece is before the rows that came in, of which `count` turn it; none of them is below the floor
-pub record IsReady (v : Sweep) : Type 0 where
+pub record IsSweepReady (v : Sweep) : Type 0 where
   pub order : v.start ≤ v.from
   pub within : v.from ≤ length v.column.handles
   pub remembers : Remembers v.arena.now.cells v.column.handles v.column.remembered
@@ -50,7 +50,7 @@ pub record IsReady (v : Sweep) : Type 0 where
   pub small : v.moved ≤ greatest
 
 -- the rows that came in passed the piece below a bound
-pub record Passes (v : Sweep) (m : Mark) (place : ℕ) (w : Sweep) : Type 0 where
+pub record SweepPasses (v : Sweep) (m : Mark) (place : ℕ) (w : Sweep) : Type 0 where
   pub made : ℕ
   pub sweeps : Sweeps v.arena.now.cells v.pending_out.now.handles v.low (Some m.bound) v.start m.position v.from v.column.handles w.column.handles made
   pub place_is : place ≡ m.position + w.count
@@ -60,11 +60,11 @@ pub record Passes (v : Sweep) (m : Mark) (place : ℕ) (w : Sweep) : Type 0 wher
   pub out_is : w.pending_out ≡ v.pending_out
   pub arena_is : w.arena ≡ v.arena
   pub moved_is : w.moved ≡ min (v.moved + made) greatest
-  pub ready : IsReady w
+  pub ready : IsSweepReady w
 
 -- the rows that came in pass the piece below a bound, if the bound is before them and not below the one before
-abbrev pub Turns : Sweep → Mark → ℕ → Sweep → Type 0
-Turns v m place w = v.start ≤ m.position → m.position ≤ v.from → v.low ≤ m.bound.0 → Passes v m place w
+abbrev pub SweepTurns : Sweep → Mark → ℕ → Sweep → Type 0
+SweepTurns v m place w = v.start ≤ m.position → m.position ≤ v.from → v.low ≤ m.bound.0 → SweepPasses v m place w
 
 -- the rows that came in passed the last piece
 pub record IsSweptTo (v w : Sweep) : Type 0 where

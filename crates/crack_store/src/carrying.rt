@@ -2,7 +2,7 @@
 ghost use Rattle.std.specs.Prelude.{◌≡◌, ◌-◌, ◌<◌, ◌≤◌, ◌∷◌, [], length, All, Some, IsTrue, IsFalse, IfSome, Contains};
 ghost use Rattle.std.specs.Prelude.{MatchOption};
 ghost use Rattle.crack_arena.specs.Arena.{read, times, slots, IsFirstAt, IsAbsent, same_handle};
-ghost use Rattle.crack_index.specs.Marks.{piece_at, next_mark};
+ghost use Rattle.crack_index.specs.Marks.{next_mark};
 ghost use Rattle.crack_state.specs.State.{IsIntact, live_rows};
 ghost use Rattle.crack_state.specs.Steps.{hand_key, piece_start, piece_end, IsDoomed, pushed_on};
 ghost use Rattle.crack_state.specs.Steps.{exchanged, appended, buried, bounds_above, returned};
@@ -12,7 +12,7 @@ use crate::inside::Inside;
 use crate::search::note_if_doomed;
 use crate::steps::{free_hand, give_back, put_last};
 use crack_arena::Handle;
-use crack_index::{Mark, Piece};
+use crack_index::Mark;
 use crack_row::{Key, Row};
 use crack_state::MergeReport;
 use std::marker::Model;
@@ -20,14 +20,15 @@ use std::marker::Model;
 /// The bound above the row in hand, kept from the last look-up: the next step up continues from it.
 #[derive(Clone, Copy)]
 pub(crate) enum Near {
-    /// It must be looked up.
+    /// It isn't kept: the next step looks it up.
     Unsought,
     /// The least bound above the row's key.
     Above(Option<Mark>),
 }
 
-/// A store with one cell in hand, which is in no list. It can't be dropped: a last step returns the store. The
-/// column keeps the hand aside, so that a step exchanges two of the column's tags and reads no generation.
+/// A store while a merge moves a row. That row is in hand: its cell is in no list, and the column keeps its tag
+/// aside, after the last place. So a step exchanges two of the column's tags and reads no generation. It can't be
+/// dropped: a last step returns the store.
 pub struct Carrying {
     pub(crate) inside: Inside,
     pub(crate) near: Near,
@@ -79,7 +80,7 @@ impl Carrying {
         self.inside.column.len()
     }
 
-    /// The merge counts.
+    /// What merges have counted since the store was made.
     pub fn tally(&self) -> MergeReport
         ensures { result ≡ self.now.store.tally }
     {
@@ -109,20 +110,7 @@ impl Carrying {
         self.inside.column.aside_key(&self.inside.arena)
     }
 
-    /// The hand's own piece: the one into which the key of its row falls. O(log bounds).
-    pub fn own_piece(&self) -> Piece
-        ensures value { result ≡ piece_at (hand_key self.now) (length self.now.store.column) self.now.store.marks }
-        ensures order { result.from ≤ result.to }
-        ensures start { result.from ≡ piece_start self.now.store (hand_key self.now) }
-        ensures end { result.to ≡ piece_end self.now.store (hand_key self.now) }
-        ensures within { result.to ≤ length self.now.store.column }
-    {
-        self.inside
-            .index
-            .piece_of(self.hand_key(), self.inside.column.len())
-    }
-
-    /// The least bound above the key in hand. O(1) on the way up, else O(log bounds).
+    /// The least bound above the key in hand. O(1) after a step up (`push_on`), else O(log bounds).
     #[inline]
     pub(crate) fn bound_above(&self) -> Option<Mark>
         ensures { result ≡ next_mark (hand_key self.now) self.now.store.marks }
@@ -133,7 +121,8 @@ impl Carrying {
         }
     }
 
-    /// The place where the hand's own piece ends. O(1) on the way up, else O(log bounds).
+    /// The place where the own piece of the row in hand ends: the piece that its key belongs to. O(1) after a step up
+    /// (`push_on`), else O(log bounds).
     pub fn piece_ends_at(&self) -> usize
         ensures value { result ≡ piece_end self.now.store (hand_key self.now) }
         ensures within { result ≤ length self.now.store.column }
@@ -145,9 +134,9 @@ impl Carrying {
         }
     }
 
-    /// Puts the hand where its own piece ends, and takes the row that was there into the hand. Each bound at that
-    /// place above the old hand's key moves up by one. On the way up O(1), and the bounds at that place; else O(log
-    /// bounds) more, once.
+    /// Puts the row in hand where its own piece ends, and takes the row that was there into the hand: a step up. Each
+    /// bound at that place above the key of the first row moves up by one. O(1), and the bounds at that place; the
+    /// first step up O(log bounds) more.
     pub fn push_on(&mut self)
         requires { piece_end self.old.store (hand_key self.old) < length self.old.store.column }
         ensures after { self.new ≡ pushed_on self.old }
@@ -212,7 +201,7 @@ impl Carrying {
     }
 
     /// Appends the hand to the column, if its own piece ends there. Each bound at that place above its key moves up
-    /// by one. On the way up O(1), and the bounds at that place; else O(log bounds) more.
+    /// by one. O(1), and the bounds at that place; without a step up before, O(log bounds) more.
     pub fn append(self) -> Store
         requires ends { piece_end self.store (hand_key self) ≡ length self.store.column }
         requires room { 0 < self.store.column_room }

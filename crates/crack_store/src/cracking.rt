@@ -1,6 +1,6 @@
 //! Cracks the column at both ends of a range. One look-up of each end finds the pieces to be cracked.
 ghost use Rattle.std.specs.Prelude.{◌≡◌, ◌+◌, ◌≤◌, [], length, IfSome, IfNone};
-ghost use Rattle.crack_index.specs.Marks.{added, piece_at};
+ghost use Rattle.crack_index.specs.Marks.{with_mark, piece_at};
 ghost use Rattle.crack_state.specs.Merge.{Refines, Stands};
 ghost use Rattle.crack_state.specs.Inside.{RefinesAt};
 ghost use Rattle.crack_store.specs.Keeps.{KeepsIntact};
@@ -153,7 +153,7 @@ fn crack_in(inside: &mut Inside, gap: Gap) -> usize
     requires room { 1 ≤ inside.old.index.room }
     ensures intact { KeepsIntact inside.new [] }
     ensures refined { RefinesAt (lists_of inside.old) (lists_of inside.new) gap.bound.0 }
-    ensures marks { inside.new.index.marks ≡ added (record { bound = gap.bound; position = result })
+    ensures marks { inside.new.index.marks ≡ with_mark (record { bound = gap.bound; position = result })
         inside.old.index.marks }
     ensures room { inside.new.index.room + 1 ≡ inside.old.index.room }
 {

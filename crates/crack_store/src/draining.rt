@@ -8,7 +8,7 @@ ghost use Rattle.crack_state.specs.Pulled.{buried_all, pulled_from, pulled_in_bu
 ghost use Rattle.crack_column.specs.Drains.{doomed_handle};
 ghost use Rattle.crack_state.specs.Merge.{outside_of};
 ghost use Rattle.crack_state.specs.State.{live_rows};
-ghost use Rattle.crack_store.specs.Drainings.{AreBuried, CanBePulled, IsDrainedTo, IsReady, IsShortened, KeepsKeys};
+ghost use Rattle.crack_store.specs.Drainings.{AreBuried, CanBePulled, IsDrainedTo, IsDrainReady, IsShortened, KeepsKeys};
 ghost use Rattle.crack_store.specs.Drainings.{doomed_of};
 ghost use Rattle.crack_store.specs.Inside.{lists_of};
 ghost use Rattle.crack_store.specs.Keeps.{KeepsIntact};
@@ -128,7 +128,7 @@ fn pull_rows(inside: &mut Inside, doomed: Vec<Doomed>)
 /// Pulls the doomed rows out of the last piece, and removes all pulled rows from the column, whose last rows they
 /// are.
 fn drain_last(drain: &mut Drain)
-    requires { IsReady drain.old }
+    requires { IsDrainReady drain.old }
     ensures { IsDrainedTo drain.old drain.new }
 {
     let len = drain.column.len();
@@ -181,9 +181,9 @@ pub(crate) struct Drain {
 }
 
 impl Placer for Drain {
-    ghost use Rattle.crack_store.specs.Drainings.{IsReady, Empties};
+    ghost use Rattle.crack_store.specs.Drainings.{IsDrainReady, Empties};
 
-    ghost is_ready = { IsReady };
+    ghost is_ready = { IsDrainReady };
 
     ghost places = { Empties };
 

@@ -1,6 +1,6 @@
 //! Carries all pending insertions of a range in bulk under a ceiling. Their rows take the places of the first rows
-//! beyond the ceiling, which are evicted, and are sifted through the pieces below the ceiling, from the highest
-//! down.
+//! beyond the ceiling, which are evicted. Then they are sifted through the pieces below the ceiling, from the highest
+//! down: a row that belongs to a lower piece is exchanged with the first row of the piece, and so moves past it.
 ghost use Rattle.std.specs.Prelude.{◌≡◌, ◌+◌, ◌-◌, ◌<◌, ◌≤◌, ◌^◌, [], Some, length, min, drop, vec_capacity};
 ghost use Rattle.std.specs.Prelude.{All, Contains, IsTrue, IsFalse, IfSome};
 ghost use Rattle.crack_arena.specs.Rows.{keys_at};
@@ -13,7 +13,7 @@ ghost use Rattle.crack_state.specs.Steps.{SameButRoom};
 ghost use Rattle.crack_store.specs.Evictions.{AreApart, ArePut, IsExchanged, IsPut, IsSiftedBelow};
 ghost use Rattle.crack_store.specs.Inside.{lists_of};
 ghost use Rattle.crack_store.specs.Keeps.{KeepsIntact};
-ghost use Rattle.crack_store.specs.Sieves.{IsReady};
+ghost use Rattle.crack_store.specs.Sieves.{IsSieveReady};
 
 use crate::Store;
 use crate::inside::Inside;
@@ -227,8 +227,9 @@ fn put_rows(
     }
 }
 
-/// Puts a handle at a place of the column, with what is remembered of its row, which is read if that isn't known.
-/// Appends a row that was there to the list; if there was none, the handle becomes the column's last. O(1).
+/// Puts a handle at a place of the column, with what is remembered of its row; if nothing is, the row is read.
+/// Appends the row that was there to the pending insertions `rows`; if the place is the column's end, the handle
+/// becomes the last one. O(1).
 fn put_at(
     rows: &mut PendingIn,
     column: &mut CrackerColumn,
@@ -259,7 +260,7 @@ fn put_at(
 /// below it moves up by the number of rows that came in below it; the bounds from `edge` on come after the rows.
 /// O(bounds).
 fn sift_below(index: &mut CrackerIndex, sieve: Sieve, edge: Mark, count: usize) -> Sieve
-    requires ready { IsReady sieve }
+    requires ready { IsSieveReady sieve }
     requires some { 0 < count }
     requires rising { Rising index.old.marks }
     requires there { Contains index.old.marks edge }
@@ -294,10 +295,10 @@ pub(crate) struct CeilingSieve {
 }
 
 impl Raiser for CeilingSieve {
-    ghost use Rattle.crack_store.specs.Sieves.{IsReady};
+    ghost use Rattle.crack_store.specs.Sieves.{IsSieveReady};
     ghost use Rattle.crack_store.specs.Evictions.{RisesUnder};
 
-    ghost is_ready = { λ v. IsReady v.sieve };
+    ghost is_ready = { λ v. IsSieveReady v.sieve };
 
     ghost rises = { RisesUnder };
 

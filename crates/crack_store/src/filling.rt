@@ -170,10 +170,10 @@ pub(crate) struct DrainBelow {
 }
 
 impl Placer for DrainBelow {
-    ghost use Rattle.crack_store.specs.Drainings.{IsReady};
+    ghost use Rattle.crack_store.specs.Drainings.{IsDrainReady};
     ghost use Rattle.crack_store.specs.Fillings.{EmptiesBelow};
 
-    ghost is_ready = { λ v. IsReady v.drain };
+    ghost is_ready = { λ v. IsDrainReady v.drain };
 
     ghost places = { EmptiesBelow };
 

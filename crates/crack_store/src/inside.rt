@@ -1,17 +1,13 @@
 //! The parts of a store, with or without a cell in hand.
 
 use crate::notes::Notes;
-use crate::serial_hash::SerialHashing;
-use crack_arena::{Arena, Handle};
+use crack_arena::Arena;
 use crack_column::CrackerColumn;
 use crack_index::CrackerIndex;
 use crack_pending::{PendingIn, PendingOut};
 use crack_row::{KeyRange, Row};
+use crack_serials::Serials;
 use crack_state::MergeReport;
-use indexmap::IndexMap;
-
-/// The handle of each live row, by its serial's number.
-pub(crate) type Serials = IndexMap<u64, Handle<Row>, SerialHashing>;
 
 /// The parts of a store: the partition's keys, its cells, and the lists that the cells are in.
 pub(crate) struct Inside {

@@ -22,7 +22,6 @@ pub mod points;
 pub mod ranges;
 pub mod reads;
 mod search;
-pub mod serial_hash;
 pub mod sifting;
 mod steps;
 pub mod store;

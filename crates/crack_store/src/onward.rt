@@ -1,5 +1,5 @@
-//! Steps from one row in hand to the next. Each ends the way of the one and begins that of the other, without
-//! moving the store.
+//! Steps from one row in hand to the next, in one call: the one is appended, buried or put back, and the other is
+//! taken into the hand. The store isn't moved in memory.
 ghost use Rattle.std.specs.Prelude.{◌≡◌, ◌<◌, ◌≤◌, ◌↔◌, IsTrue, length, OnOk, IfErr};
 ghost use Rattle.crack_arena.specs.Arena.{times, slots, StandsAt};
 ghost use Rattle.crack_arena.specs.Rows.{keys_at};
@@ -34,7 +34,7 @@ impl Carrying {
         Ok(())
     }
 
-    /// Ends the way of the hand as `append` does, and takes the pending insertion at this place into the hand, as
+    /// Appends the row in hand, as `append` does, and takes the pending insertion at this place into the hand, as
     /// `lift` does. Costs what the two do, and moves no store.
     pub fn append_and_lift(&mut self, place: usize)
         requires ends { piece_end self.old.store (hand_key self.old) ≡ length self.old.store.column }
@@ -49,8 +49,8 @@ impl Carrying {
         self.near = take_in(&mut self.inside, place);
     }
 
-    /// Ends the way of the hand as `bury` does, and takes the pending insertion at this place into the hand, as
-    /// `lift` does. Costs what the two do, and moves no store.
+    /// Buries the row in hand, as `bury` does, and takes the pending insertion at this place into the hand, as `lift`
+    /// does. Costs what the two do, and moves no store.
     pub fn bury_and_lift(&mut self, place: usize)
         requires doomed { IsDoomed self.old }
         requires there { place < length self.old.store.pending_in }
@@ -61,7 +61,7 @@ impl Carrying {
         self.near = take_in(&mut self.inside, place);
     }
 
-    /// Ends the way of the hand as `bury` does, and takes the column's last row into the hand, as `lift_last` does.
+    /// Buries the row in hand, as `bury` does, and takes the column's last row into the hand, as `lift_last` does.
     /// Costs what the two do, and moves no store.
     pub fn bury_and_lift_last(&mut self)
         requires doomed { IsDoomed self.old }
@@ -74,8 +74,8 @@ impl Carrying {
         self.near = take_last(inside);
     }
 
-    /// Ends the way of the hand as `put_back` does, after which it is the last pending insertion, and takes the one
-    /// at this place into the hand, as `lift` does. Costs what the two do, and moves no store.
+    /// Evicts the row in hand, as `put_back` does, after which it is the last pending insertion, and takes the one at
+    /// this place into the hand, as `lift` does. Costs what the two do, and moves no store.
     pub fn put_back_and_lift(&mut self, place: usize)
         requires room { 0 < self.old.store.in_room }
         requires kept { times self.old.hand.slot (slots self.old.store.pending_out) ≡ 0 }

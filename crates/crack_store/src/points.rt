@@ -1,21 +1,21 @@
 //! The rows of a store by their serials: look-up, removal and replacement.
-ghost use Rattle.std.specs.Prelude.{◌≡◌, ◌+◌, ◌-◌, ◌<◌, ◌∷◌, map, slice_get, Some, None, IsSome, IfSome, IfOk, IfErr};
+ghost use Rattle.std.specs.Prelude.{◌≡◌, ◌+◌, ◌-◌, ◌<◌, ◌∷◌, map, Some, None, IsSome, IfSome, IfOk, IfErr};
 ghost use Rattle.std.specs.Prelude.{OnOk, OnErr, IsOk, IfNone, true, false};
-ghost use Rattle.std.specs.Option.{option_map};
 ghost use Rattle.std.specs.List.Sorted.{IsPermutation};
 ghost use Rattle.crack_row.specs.Ranges.{IsIn};
 ghost use Rattle.crack_row.specs.Rows.{row_with, replaced};
 ghost use Rattle.crack_arena.specs.Arena.{read, freed, freed_at};
 ghost use Rattle.crack_arena.specs.declared.TheConstants.{MOST_FREED};
-ghost use Rattle.crack_state.specs.State.{live_rows, handle_of, freed_of};
+ghost use Rattle.crack_serials.specs.Serials.{IsLead, handle_of};
+ghost use Rattle.crack_state.specs.State.{live_rows, freed_of};
 ghost use Rattle.crack_state.specs.Steps.{SameButRoom};
-ghost use Rattle.crack_state.specs.Points.{row_by, pending_by, handle_by, Maps, MayFree, IsRenewable, IsRewritable};
+ghost use Rattle.crack_state.specs.Points.{row_by, pending_by, handle_by, MayFree, IsRenewable, IsRewritable};
 ghost use Rattle.crack_state.specs.Points.{Cancels, Dooms, Removes, Renews, Rewrites, overwritten};
 
 use crate::Store;
-use crate::inside::Serials;
 use crack_arena::{Arena, Handle, Remembered};
 use crack_row::{Key, Payload, Refusal, Row, Serial};
+use crack_serials::Lead;
 
 impl Store {
     /// The row with this serial; `None` if there is no such row. O(1).
@@ -23,8 +23,8 @@ impl Store {
         ensures value { result ≡ row_by self.now serial.0 }
         ensures none { IfNone result (handle_of self.now.serials serial.0 ≡ None) }
     {
-        match self.inside.serials.get(&serial.0) {
-            Some(handle) => Some(row_at(&self.inside.arena, *handle)),
+        match self.inside.serials.get(serial) {
+            Some(handle) => Some(row_at(&self.inside.arena, handle)),
             None => None,
         }
     }
@@ -50,7 +50,7 @@ impl Store {
         ensures same { OnErr result (SameButRoom self.old self.new) }
         ensures err { IfErr result (λ e. e ≡ Refusal.OutOfMemory) }
     {
-        let Some(lead) = find(&self.inside.serials, serial) else {
+        let Some(lead) = self.inside.serials.find(serial) else {
             return Ok(None);
         };
         if self.inside.pending_in.contains(lead.handle.slot()) {
@@ -69,7 +69,7 @@ impl Store {
         ensures after { Cancels serial.0 self.old self.new }
         ensures live { IsPermutation (result ∷ live_rows self.new) (live_rows self.old) }
     {
-        let lead = lead_of(&self.inside.serials, serial);
+        let lead = self.inside.serials.lead_of(serial);
         self.cancel_at(lead)
     }
 
@@ -85,13 +85,13 @@ impl Store {
         ensures same { OnErr result (SameButRoom self.old self.new) }
         ensures err { IfErr result (λ e. e ≡ Refusal.OutOfMemory) }
     {
-        let lead = lead_of(&self.inside.serials, serial);
+        let lead = self.inside.serials.lead_of(serial);
         self.doom_at(lead)
     }
 
     /// Removes a pending insertion whose serial was looked up. Takes no memory. Amortised O(1).
     fn cancel_at(&mut self, lead: Lead) -> Row
-        requires entry { slice_get self.old.serials lead.at ≡ Some (lead.serial.0, lead.handle) }
+        requires entry { IsLead lead self.old.serials }
         requires found { handle_of self.old.serials lead.serial.0 ≡ Some lead.handle }
         requires pending { pending_by self.old lead.serial.0 ≡ Some true }
         requires few { MayFree self.old }
@@ -100,14 +100,14 @@ impl Store {
         ensures live { IsPermutation (result ∷ live_rows self.new) (live_rows self.old) }
     {
         let handle = lead.handle;
-        forget_at(&mut self.inside.serials, lead);
+        self.inside.serials.forget_at(lead);
         self.inside.pending_in.strike(handle);
         free(&mut self.inside.arena, handle)
     }
 
     /// Dooms a row of the column whose serial was looked up. O(1), except for growth.
     fn doom_at(&mut self, lead: Lead) -> Result<Row, Refusal>
-        requires entry { slice_get self.old.serials lead.at ≡ Some (lead.serial.0, lead.handle) }
+        requires entry { IsLead lead self.old.serials }
         requires found { handle_of self.old.serials lead.serial.0 ≡ Some lead.handle }
         requires column { pending_by self.old lead.serial.0 ≡ Some false }
         requires few { MayFree self.old }
@@ -123,7 +123,7 @@ impl Store {
             .make_places(self.inside.arena.cells())?;
         self.inside.notes.make_places(self.inside.arena.cells())?;
         let handle = lead.handle;
-        forget_at(&mut self.inside.serials, lead);
+        self.inside.serials.forget_at(lead);
         let row = row_at(&self.inside.arena, handle);
         self.inside
             .pending_out
@@ -146,7 +146,7 @@ impl Store {
         ensures same { OnErr result (SameButRoom self.old self.new) }
         ensures err { IfErr result (λ e. e ≡ Refusal.OutOfMemory) }
     {
-        let Some(lead) = find(&self.inside.serials, row.serial) else {
+        let Some(lead) = self.inside.serials.find(row.serial) else {
             return Ok(None);
         };
         let waits = self.inside.pending_in.contains(lead.handle.slot());
@@ -200,7 +200,7 @@ impl Store {
     /// Returns the row as it was. O(1), except for growth.
     fn renew(&mut self, lead: Lead, row: Row) -> Result<Row, Refusal>
         requires serial { lead.serial ≡ row.serial }
-        requires entry { slice_get self.old.serials lead.at ≡ Some (lead.serial.0, lead.handle) }
+        requires entry { IsLead lead self.old.serials }
         requires found { handle_of self.old.serials row.serial.0 ≡ Some lead.handle }
         requires column { pending_by self.old row.serial.0 ≡ Some false }
         requires within { IsIn self.old.keys row.key.0 }
@@ -225,7 +225,7 @@ impl Store {
         let doomed = lead.handle;
         let before = row_at(&self.inside.arena, doomed);
         let handle = self.inside.arena.put_reserved(row);
-        lead_to(&mut self.inside.serials, lead, handle);
+        self.inside.serials.lead_to(lead, handle);
         self.inside
             .pending_out
             .push_remembered(doomed, Remembered::of(before));
@@ -257,60 +257,6 @@ fn free(arena: &mut Arena<Row>, handle: Handle<Row>) -> Row
 {
     match arena.free(handle) {
         Some(row) => row,
-        None => unreachable!(),
-    }
-}
-
-/// A serial that was looked up: its handle, and the index `at` of its entry in the map.
-#[derive(Clone, Copy)]
-struct Lead {
-    serial: Serial,
-    at: usize,
-    handle: Handle<Row>,
-}
-
-/// Looks up a serial. O(1).
-fn find(serials: &Serials, serial: Serial) -> Option<Lead>
-    ensures serial { IfSome result (λ lead. lead.serial ≡ serial) }
-    ensures entry { IfSome result (λ lead. slice_get serials.now.entries lead.at ≡ Some (serial.0, lead.handle)) }
-    ensures handle { option_map (λ lead. lead.handle) result ≡ handle_of serials.now.entries serial.0 }
-{
-    let (at, _, handle) = serials.get_full(&serial.0)?;
-    Some(Lead {
-        serial,
-        at,
-        handle: *handle,
-    })
-}
-
-/// Looks up a serial that is in the map. O(1).
-fn lead_of(serials: &Serials, serial: Serial) -> Lead
-    requires { IsSome (handle_of serials.now.entries serial.0) }
-    ensures serial { result.serial ≡ serial }
-    ensures entry { slice_get serials.now.entries result.at ≡ Some (serial.0, result.handle) }
-    ensures handle { handle_of serials.now.entries serial.0 ≡ Some result.handle }
-{
-    match find(serials, serial) {
-        Some(lead) => lead,
-        None => unreachable!(),
-    }
-}
-
-/// Removes a serial that was looked up from the map, without another search: the last entry takes its place. O(1).
-fn forget_at(serials: &mut Serials, lead: Lead)
-    requires { slice_get serials.old.entries lead.at ≡ Some (lead.serial.0, lead.handle) }
-    ensures { Maps lead.serial.0 None serials.old.entries serials.new.entries }
-{
-    serials.swap_remove_index(lead.at);
-}
-
-/// Sets the handle of a serial that was looked up, without another search. Takes no memory. O(1).
-fn lead_to(serials: &mut Serials, lead: Lead, handle: Handle<Row>)
-    requires { slice_get serials.old.entries lead.at ≡ Some (lead.serial.0, lead.handle) }
-    ensures { Maps lead.serial.0 (Some handle) serials.old.entries serials.new.entries }
-{
-    match serials.get_index_mut(lead.at) {
-        Some(there) => *there = handle,
         None => unreachable!(),
     }
 }

@@ -247,11 +247,11 @@ pub(crate) struct Sieve {
 }
 
 impl Raiser for Sieve {
-    ghost use Rattle.crack_store.specs.Sieves.{IsReady, Rises};
+    ghost use Rattle.crack_store.specs.Sieves.{IsSieveReady, SieveRises};
 
-    ghost is_ready = { IsReady };
+    ghost is_ready = { IsSieveReady };
 
-    ghost rises = { Rises };
+    ghost rises = { SieveRises };
 
     /// Sifts the rows that came in through the piece above the bound, which rises by the number of them below it.
     fn rise(&mut self, mark: Mark) -> usize {

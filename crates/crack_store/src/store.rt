@@ -6,7 +6,8 @@ ghost use Rattle.crack_row.specs.Layouts.{IsLayout};
 ghost use Rattle.crack_arena.specs.Rows.{keys_at};
 ghost use Rattle.crack_arena.specs.Arena.{StandsAt};
 ghost use Rattle.crack_pending.specs.Pending.{Finds};
-ghost use Rattle.crack_state.specs.State.{State, IsIntact, live_rows, handle_of};
+ghost use Rattle.crack_serials.specs.Serials.{handle_of};
+ghost use Rattle.crack_state.specs.State.{State, IsIntact, live_rows};
 ghost use Rattle.crack_state.specs.Steps.{lifted, lifted_last, admitted, IsAdmissible, SameButRoom};
 ghost use Rattle.crack_state.specs.Merge.{Refines, Stands, IsCracked, edge, bound_above};
 ghost use Rattle.crack_state.specs.Points.{pending_by};
@@ -18,20 +19,16 @@ use crate::cracking::{code_pending, crack_at_ends, missing_ends};
 use crate::further::{BOUNDS_BESIDE, crack_further};
 use crate::inside::Inside;
 use crate::notes::Notes;
-use crate::serial_hash::SerialHashing;
 use crate::steps::{take_in, take_last};
-use crack_arena::{Arena, Handle, Remembered};
+use crack_arena::{Arena, Handle, MOST_CELLS, Remembered};
 use crack_column::CrackerColumn;
 use crack_index::CrackerIndex;
 use crack_pending::{PendingIn, PendingOut};
 use crack_row::{Bound, KeyRange, Layout, PieceList, Refusal, Row, Serial};
+use crack_serials::Serials;
 use crack_state::MergeReport;
-use indexmap::IndexMap;
 use std::alloc::Global;
 use std::marker::Model;
-
-/// The number of rows for which the map of serials first has room.
-const FIRST_SERIALS: usize = 4096;
 
 /// The rows of a partition in cracked order, with the pending rows that no command has needed yet
 /// ("Database Cracking", CIDR 2007; "Updating a Cracked Database", SIGMOD 2007).
@@ -68,7 +65,7 @@ impl Store {
                 pending_out: PendingOut::new(alloc),
                 in_room: 0,
                 notes: Notes::new(alloc),
-                serials: IndexMap::with_hasher(alloc, SerialHashing),
+                serials: Serials::new(alloc),
                 tally: MergeReport {
                     put_in: 0,
                     taken_out: 0,
@@ -98,15 +95,13 @@ impl Store {
     {
         self.inside.pending_in.reserve(1)?;
         self.inside.arena.reserve(1)?;
-        self.inside
-            .serials
-            .reserve(growth(self.inside.serials.len()))?;
+        self.inside.serials.reserve(row.serial)?;
         let new_cells = (self.inside.arena.free_cells() == 0) as usize;
         self.inside
             .pending_in
             .make_places(self.inside.arena.cells() + new_cells)?;
         let handle = self.inside.arena.put_reserved(row);
-        let _ = self.inside.serials.insert(row.serial.0, handle);
+        let _ = self.inside.serials.insert_reserved(row.serial, handle);
         self.inside
             .pending_in
             .push_remembered(handle, Remembered::of(row));
@@ -114,12 +109,29 @@ impl Store {
         Ok(())
     }
 
+    /// Makes room for the next `rows` calls of `admit`, or for as many as there may be cells, if the serials of their
+    /// rows are `first` and those after it; `admit` makes room for what is left. O(1), except for growth. Refused with
+    /// `OutOfMemory` if no memory is found; then there may be room for some.
+    pub fn make_room_for(&mut self, first: Serial, rows: usize) -> Result<(), Refusal>
+        ensures same { self.new ≡ self.old }
+        ensures err { IfErr result (λ e. e ≡ Refusal.OutOfMemory) }
+    {
+        let rows = rows.min(MOST_CELLS as usize);
+        self.inside.pending_in.reserve(rows)?;
+        self.inside.arena.reserve(rows)?;
+        self.inside.serials.reserve_many(first, rows)?;
+        let new_cells = rows.saturating_sub(self.inside.arena.free_cells());
+        self.inside
+            .pending_in
+            .make_places(self.inside.arena.cells() + new_cells)
+    }
+
     /// Whether the row with this serial is a pending insertion; `None` if there is no such row. O(1).
     pub fn is_pending(&self, serial: Serial) -> Option<bool>
         ensures value { result ≡ pending_by self.now serial.0 }
         ensures none { IfNone result (handle_of self.now.serials serial.0 ≡ None) }
     {
-        match self.inside.serials.get(&serial.0) {
+        match self.inside.serials.get(serial) {
             Some(handle) => Some(self.inside.pending_in.contains(handle.slot())),
             None => None,
         }
@@ -181,8 +193,9 @@ impl Store {
         Ok(())
     }
 
-    /// Takes the pending insertion at this place, in order of arrival, into the hand, after `make_room`. Amortised
-    /// O(1) at the first place, or after the one taken last; takes no memory.
+    /// Takes the pending insertion at this place, in order of arrival, into the hand, after `make_room`: its row is
+    /// then in no list, until steps of the `Carrying` bring it to its place. Amortised O(1) at the first place, or
+    /// after the one taken last; takes no memory.
     pub fn lift(self, place: usize) -> Carrying
         requires there { place < length self.pending_in }
         requires room { 0 < self.column_room }
@@ -326,7 +339,7 @@ impl Store {
         self.inside.arena.free_cells()
     }
 
-    /// The merge counts.
+    /// What merges have counted since the store was made.
     pub fn tally(&self) -> MergeReport
         ensures { result ≡ self.now.tally }
     {
@@ -381,11 +394,4 @@ impl Store {
     {
         self.inside.pending_out.at(place)
     }
-}
-
-/// For how many more rows a map of this many makes room.
-fn growth(rows: usize) -> usize
-    ensures { 1 ≤ result }
-{
-    if rows == 0 { FIRST_SERIALS } else { 1 }
 }

@@ -1,6 +1,7 @@
-//! Carries in bulk that meet doomed rows. The rows that come in are appended to the column, and turn its pieces
-//! from the lowest up: each row that turns a piece is exchanged with the piece's next row, which goes on in its
-//! place.
+//! Carries in bulk that meet doomed rows. The rows that come in are appended to the column, and pass its pieces from
+//! the lowest up. A row turns a piece if it is below the piece's low bound and isn't doomed: it is exchanged with the
+//! piece's next row, which then stands for it. A row goes on from a piece if it is below the piece's high bound and
+//! isn't doomed: it turns the next piece.
 ghost use Rattle.std.specs.Prelude.{◌≡◌, ◌+◌, ◌-◌, ◌<◌, ◌≤◌, ◌++◌, ◌↔◌, ℕ, not, true, false, [], Some, None, map};
 ghost use Rattle.std.specs.Prelude.{length, take, drop, filter, vec_capacity, slice_index_or, IsTrue, IsFalse, IfSome};
 ghost use Rattle.crack_arena.specs.Arena.{no_handle};
@@ -15,7 +16,7 @@ ghost use Rattle.crack_state.specs.State.{live_rows};
 ghost use Rattle.crack_state.specs.Steps.{SameButRoom};
 ghost use Rattle.crack_store.specs.Inside.{lists_of};
 ghost use Rattle.crack_store.specs.Keeps.{KeepsIntact};
-ghost use Rattle.crack_store.specs.Sweepings.{ends_in, up_to, going_on, leaving, IsReady, IsSweptTo, Sweeps};
+ghost use Rattle.crack_store.specs.Sweepings.{ends_in, up_to, going_on, leaving, IsSweepReady, IsSweptTo, Sweeps};
 
 use crate::draining::{bury_all, shorten};
 use crate::inside::Inside;
@@ -136,7 +137,7 @@ fn sweep_rows(
 
 /// Moves the rows that came in past the last piece.
 fn sweep_last(sweep: &mut Sweep)
-    requires { IsReady sweep.old }
+    requires { IsSweepReady sweep.old }
     ensures { IsSweptTo sweep.old sweep.new }
 {
     let (made, _) = sweep_turned(
@@ -202,11 +203,11 @@ pub(crate) struct Sweep<'a> {
 }
 
 impl<'a> Placer for Sweep<'a> {
-    ghost use Rattle.crack_store.specs.Sweepings.{IsReady, Turns};
+    ghost use Rattle.crack_store.specs.Sweepings.{IsSweepReady, SweepTurns};
 
-    ghost is_ready = { IsReady };
+    ghost is_ready = { IsSweepReady };
 
-    ghost places = { Turns };
+    ghost places = { SweepTurns };
 
     /// Moves the rows that came in past the piece below the bound, which rises by the number of rows that go on
     /// from the piece. No row turns a piece that ends at or below the floor.
@@ -324,8 +325,8 @@ fn sweep_piece(
     (made, going)
 }
 
-/// The first place from `used` on whose row goes on from a piece that ends at the bound `high`, but at most
-/// `place`.
+/// The first place from `used` on whose row goes on, by `leaves`, from a piece that ends at the bound `high`; `place`
+/// if there is none before it.
 fn next_going(
     column: &CrackerColumn,
     used: usize,
@@ -356,7 +357,7 @@ fn next_going(
     next
 }
 
-/// How many of the rows from the place `from` on go on from a piece that ends at the bound `high`.
+/// How many of the rows from the place `from` on go on, by `leaves`, from a piece that ends at the bound `high`.
 fn count_going(
     column: &CrackerColumn,
     from: usize,
@@ -377,7 +378,8 @@ fn count_going(
     count
 }
 
-/// Whether the row at the place goes on from a piece that ends at the bound `high`.
+/// Whether the row at the place goes on from a piece that ends at the bound `high`: it is below this bound, if there
+/// is one, and isn't doomed.
 #[inline(always)]
 fn leaves(
     column: &CrackerColumn,

@@ -25,8 +25,6 @@ mod row;
 #[cfg(test)]
 mod script;
 #[cfg(test)]
-mod serial_hash;
-#[cfg(test)]
 mod serials;
 #[cfg(test)]
 mod sorted_index;

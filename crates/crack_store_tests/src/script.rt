@@ -97,7 +97,7 @@ fn push_on(rt: &impl Abort, carrying: Carrying) -> Carrying
     ensures doomed { result.store.pending_out ≡ carrying.store.pending_out }
 {
     let mut carrying = carrying;
-    let end = carrying.own_piece().to;
+    let end = carrying.piece_ends_at();
     let len = carrying.column_len();
     assert!(rt; end < len);
     carrying.push_on();
@@ -109,7 +109,7 @@ fn append(rt: &impl Abort, carrying: Carrying) -> Store
     requires room { 0 < carrying.store.column_room }
     requires doomed { length carrying.store.pending_out ≡ 0 }
 {
-    let end = carrying.own_piece().to;
+    let end = carrying.piece_ends_at();
     let len = carrying.column_len();
     assert!(rt; end == len);
     carrying.append()

@@ -43,6 +43,22 @@ fn most_in_one(rt: &impl Abort, alloc: Global, map: u64, groups: usize, step: u6
     most
 }
 
+/// Asserts that the four serials from this one on share a group, and have different hashes.
+fn assert_neighbours(rt: &impl Abort, serial: u64) {
+    for next in 1..4 {
+        let other = serial.wrapping_add(next);
+        assert!(rt; group_of(other, 512) == group_of(serial, 512));
+        assert!(rt; SerialHashing.hash_one(other) != SerialHashing.hash_one(serial));
+    }
+}
+
+#[test]
+fn neighbours_share_a_group(rt: HostRuntime) {
+    for number in 0..1000u64 {
+        assert_neighbours(&rt, number.wrapping_mul(4));
+    }
+}
+
 /// For the consecutive serials of a map, no group gets more rows than it holds, up to a full table of each size.
 #[test]
 fn rows_of_a_map_find_their_groups_free(rt: HostRuntime) {

@@ -24,7 +24,7 @@ use Rattle.crack_part.specs.Parts.{Part}
 use Rattle.crack_part.specs.Upkeep.{is_automatic, is_due}
 use Rattle.crack_core.specs.Opening.{AreParts}
 use Rattle.crack_core.specs.Routes.{keys_of_part}
-use Rattle.crack_core.specs.Steps.{bounds_of, mapped, unless, expected, IsOutcome, table_after, upkept_by}
+use Rattle.crack_core.specs.Steps.{bounds_from, mapped, unless, expected, IsOutcome, table_after, upkept_by}
 use Rattle.crack_core.specs.Jobs.{after_job, after_jobs, IsJobOutcome}
 use Rattle.crack_core.proofs.JobLaws.{outcome-alike}
 use Rattle.crack_core.specs.declared.step.Step.{Step}
@@ -64,7 +64,7 @@ record OnTheWay (past now : Past) (asks : List Command) : Type 0 where
   pub coming : asks ≡ map asked rest
 
 -- the next command of a partition is to be answered as it was
-next-answered : (limits : Limits) (keys : Range) (past now : Past) (e : Entry) (rest : List Entry) → IsLegal keys limits past → now.base ≡ past.base → past.tail ≡ now.tail ++ e ∷ rest → expected (bounds_of limits) keys (Some (table_of_past now)) e.command ≡ Ok e.reply
+next-answered : (limits : Limits) (keys : Range) (past now : Past) (e : Entry) (rest : List Entry) → IsLegal keys limits past → now.base ≡ past.base → past.tail ≡ now.tail ++ e ∷ rest → expected (bounds_from limits) keys (Some (table_of_past now)) e.command ≡ Ok e.reply
 next-answered limits keys past now e rest legal base tails =
     let long : length past.tail ≡ length now.tail + length (e ∷ rest) = ap length tails ∙ length-append now.tail (e ∷ rest) in
     let more : length (e ∷ rest) ≡ suc (length rest) = refl in
@@ -104,7 +104,7 @@ table_of_past-push past e =
     rw (state_after-push past e, long) refl
 
 -- upkeep does the same to a past and to its plain table
-table_of_past-upkept : (limits : Limits) (past : Past) → table_of_past (upkept_past limits past) ≡ upkept_by (bounds_of limits) (table_of_past past)
+table_of_past-upkept : (limits : Limits) (past : Past) → table_of_past (upkept_past limits past) ≡ upkept_by (bounds_from limits) (table_of_past past)
 table_of_past-upkept limits past = by_test (is_due limits (length past.tail))
   where
     by_test : (b : Bool) → table_of_past (cond b (folded past) past) ≡ cond b (checkpointed (table_of_past past)) (table_of_past past)
@@ -115,7 +115,7 @@ table_of_past-upkept limits past = by_test (is_due limits (length past.tail))
 table-stepped : (limits : Limits) (worker part : ℕ) (step : Step) (r : Result Reply Refusal) (past : Past) → table_of_past (past_after limits worker part step r past) ≡ after_job limits part (Perform step) (mapped Replied r) (table_of_past past)
 table-stepped limits worker part step (Ok reply) past = by_test (step.part == part)
   where
-    by_test : (b : Bool) → table_of_past (cond b (with_entry (upkept_past limits past) (made worker step reply)) past) ≡ cond b (table_after (upkept_by (bounds_of limits) (table_of_past past)) step.command) (table_of_past past)
+    by_test : (b : Bool) → table_of_past (cond b (with_entry (upkept_past limits past) (made worker step reply)) past) ≡ cond b (table_after (upkept_by (bounds_from limits) (table_of_past past)) step.command) (table_of_past past)
     by_test true = table_of_past-push (upkept_past limits past) (made worker step reply) ∙ ap (λ (t : PlainView). table_after t step.command) (table_of_past-upkept limits past)
     by_test false = refl
 table-stepped limits worker part step (Err e) past = refl
@@ -124,7 +124,7 @@ table-stepped limits worker part step (Err e) past = refl
 abbrev Outcomes : Limits → List Bound → (ℕ → Option Past) → List Step → List (Result Reply Refusal) → Type 0
 Outcomes limits splits now steps results =
     (k : ℕ) (job : Job) (result : Result Done Refusal) → slice_get (map Perform steps) k ≡ Some job → slice_get (map (mapped Replied) results) k ≡ Some result →
-    IsJobOutcome (bounds_of limits) splits (λ part. option_map (λ (past : Past). after_jobs limits part (take k (map Perform steps)) (take k (map (mapped Replied) results)) (table_of_past past)) (now part)) job result
+    IsJobOutcome (bounds_from limits) splits (λ part. option_map (λ (past : Past). after_jobs limits part (take k (map Perform steps)) (take k (map (mapped Replied) results)) (table_of_past past)) (now part)) job result
 
 -- the partitions after one step
 abbrev stepped : Limits → ℕ → Step → Result Reply Refusal → (ℕ → Option Past) → ℕ → Option Past
@@ -132,7 +132,7 @@ stepped limits worker step result now part = option_map (past_after limits worke
 
 outcomes-rest : (limits : Limits) (worker : ℕ) (splits : List Bound) (now : ℕ → Option Past) (step : Step) (steps : List Step) (result : Result Reply Refusal) (results : List (Result Reply Refusal)) → Outcomes limits splits now (step ∷ steps) (result ∷ results) → Outcomes limits splits (stepped limits worker step result now) steps results
 outcomes-rest limits worker splits now step steps result results outcomes = λ k job r at there.
-    outcome-alike (bounds_of limits) splits
+    outcome-alike (bounds_from limits) splits
     (λ part. option_map (λ (past : Past). after_jobs limits part (take (suc k) (map Perform (step ∷ steps))) (take (suc k) (map (mapped Replied) (result ∷ results))) (table_of_past past)) (now part))
     (λ part. option_map (λ (past : Past). after_jobs limits part (take k (map Perform steps)) (take k (map (mapped Replied) results)) (table_of_past past)) (stepped limits worker step result now part))
     job r (λ part. rest k part (now part)) (outcomes (suc k) job r at there)
@@ -219,10 +219,10 @@ module _ (limits : Limits) (splits : List Bound) (final : ℕ → Option Past) (
   comes : (now : ℕ → Option Past) (step : Step) (steps : List Step) (result : Result Reply Refusal) (results : List (Result Reply Refusal)) (n : Next final now step steps) → Outcomes limits splits now (step ∷ steps) (result ∷ results) → (result ≡ Ok n.entry.reply) ⊎ ((result ≡ Err OutOfMemory) ⊎ (result ≡ Err NoCell))
   comes now step steps result results n outcomes =
       let keys = keys_of_part splits step.part in
-      let job : IsJobOutcome (bounds_of limits) splits (λ part. option_map (λ (past : Past). table_of_past past) (now part)) (Perform step) (mapped Replied result) = outcomes 0 (Perform step) (mapped Replied result) refl refl in
-      let mine : IsOutcome (bounds_of limits) keys (Some (table_of_past n.cur)) step.command job.0 = subst (λ (o : Option Past). IsOutcome (bounds_of limits) keys (option_map (λ (past : Past). table_of_past past) o) step.command job.0) n.now_is job.2 in
-      let same : expected (bounds_of limits) keys (Some (table_of_past n.cur)) step.command ≡ Ok n.entry.reply = subst (λ (c : Command). expected (bounds_of limits) keys (Some (table_of_past n.cur)) c ≡ Ok n.entry.reply) n.command (next-answered limits keys n.past n.cur n.entry n.rest (legal step.part n.past n.final_is) n.base n.tails) in
-      rw (unperformed result job.0 job.1) (answered-or n.entry.reply (expected (bounds_of limits) keys (Some (table_of_past n.cur)) step.command) job.0 same mine)
+      let job : IsJobOutcome (bounds_from limits) splits (λ part. option_map (λ (past : Past). table_of_past past) (now part)) (Perform step) (mapped Replied result) = outcomes 0 (Perform step) (mapped Replied result) refl refl in
+      let mine : IsOutcome (bounds_from limits) keys (Some (table_of_past n.cur)) step.command job.0 = subst (λ (o : Option Past). IsOutcome (bounds_from limits) keys (option_map (λ (past : Past). table_of_past past) o) step.command job.0) n.now_is job.2 in
+      let same : expected (bounds_from limits) keys (Some (table_of_past n.cur)) step.command ≡ Ok n.entry.reply = subst (λ (c : Command). expected (bounds_from limits) keys (Some (table_of_past n.cur)) c ≡ Ok n.entry.reply) n.command (next-answered limits keys n.past n.cur n.entry n.rest (legal step.part n.past n.final_is) n.base n.tails) in
+      rw (unperformed result job.0 job.1) (answered-or n.entry.reply (expected (bounds_from limits) keys (Some (table_of_past n.cur)) step.command) job.0 same mine)
 
   -- and then all are still on the way
   gone-on : (now : ℕ → Option Past) (step : Step) (steps : List Step) (n : Next final now step steps) → Going final now (step ∷ steps) → Going final (stepped limits n.entry.worker step (Ok n.entry.reply) now) steps
@@ -378,7 +378,7 @@ repeats owner splits limits parts whole are steps results asks outcomes = record
 
     -- the outcomes of a core at the plain tables of the bases are those of partitions at the bases
     at-bases : Outcomes limits splits now steps results
-    at-bases k job r at there = outcome-alike (bounds_of limits) splits
+    at-bases k job r at there = outcome-alike (bounds_from limits) splits
         (λ part. option_map (after_jobs limits part (take k (map Perform steps)) (take k (map (mapped Replied) results))) (slice_get (map table_at_base pasts) part))
         (λ part. option_map (λ (past : Past). after_jobs limits part (take k (map Perform steps)) (take k (map (mapped Replied) results)) (table_of_past past)) (now part))
         job r (λ part. alike k part) (outcomes.outcomes k job r at there)

@@ -11,7 +11,7 @@ use Rattle.crack_part.specs.Parts.{Part, IsSound}
 use Rattle.crack_core.specs.Opening.{AreParts}
 use Rattle.crack_core.specs.Routes.{keys_of_part}
 use Rattle.crack_witness.specs.Histories.{history_of}
-use Rattle.crack_witness.specs.Witnesses.{WorkerState, WitnessedState, IsWhole, Agrees, MayDiffer}
+use Rattle.crack_witness.specs.Witnesses.{WorkerState, WitnessedState, IsWhole, HasSeen, MayDiffer}
 use Rattle.crack_table.specs.Audits.{histories_of, receipts_of}
 use Rattle.crack_table.specs.Cover.{IsFault}
 use Rattle.crack_table.specs.Tables.{TableState}
@@ -44,7 +44,7 @@ pub record AreGathered (owner : ℕ → ℕ) (splits : List Bound) (limits : Lim
   pub tables : AreParts splits limits (held_by parts)
   pub numbered : (place : ℕ) (w : WitnessedState) → slice_get parts place ≡ Some w → (w.part ≡ place) × (w.workers ≡ count)
   pub whole : All (λ (w : WitnessedState). IsWhole owner w) parts
-  pub agree : All (λ (w : WitnessedState). All (λ (a : WorkerState). Agrees owner a w) workers) parts
+  pub agree : All (λ (w : WitnessedState). All (λ (a : WorkerState). HasSeen owner a w) workers) parts
 
 -- the table's partition at a place: it has the number of its place, counts the table's workers, lists its entries if
 -- there is an audit, and has the table's keys and limits there

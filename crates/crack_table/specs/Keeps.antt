@@ -5,7 +5,7 @@ use Rattle.crack_row.specs.Limits.{AreLimits}
 use Rattle.crack_row.specs.declared.Bound.{Bound}
 use Rattle.crack_row.specs.declared.limit.Limits.{Limits}
 use Rattle.crack_core.specs.Routes.{AreSplits}
-use Rattle.crack_witness.specs.Witnesses.{AreApart, AreDistinct, WitnessedState}
+use Rattle.crack_witness.specs.Witnesses.{OwnersDiffer, AreDistinct, WitnessedState}
 
 -- the invariant of a table whose book has no name yet: its arguments are valid, and each partition has an owner of
 -- its own, a number in the book
@@ -24,7 +24,7 @@ pub record IsTable (owner : ℕ → ℕ) (splits : List Bound) (limits : Limits)
   pub limited : AreLimits limits
   pub few : workers ≤ 64
   pub all : locks ≡ length splits + 1
-  pub apart : AreApart owner locks
+  pub apart : OwnersDiffer owner locks
 
 -- each partition has the number of its place, and counts the entries of this many workers
 abbrev pub AreNumbered : ℕ → List WitnessedState → Type 0

@@ -10,7 +10,7 @@ ghost use Rattle.crack_table.specs.Tables.{with_limit};
 ghost use Rattle.crack_table.specs.declared.TheConstants.{GATE_TURNS};
 ghost use Rattle.crack_witness.specs.Audits.{and_one};
 ghost use Rattle.crack_witness.specs.Histories.{calls_at, AreHistories};
-ghost use Rattle.crack_witness.specs.Witnesses.{IsGiven, Knows, MayRefuseAt, replies_at, replies_to};
+ghost use Rattle.crack_witness.specs.Witnesses.{IsGiven, KnowsHistory, MayRefuseAt, replies_at, replies_to};
 
 use crate::gate::{Gate, pass};
 use crack_row::{Command, Policy, Refusal, Reply};
@@ -67,13 +67,13 @@ pub(crate) fn ask_behind<J: Naming, G: Gate>(
     ensures worker { worker.new.worker ≡ worker.old.worker }
 
     ensures strange { IfOk result (λ answered. part < length worker.old.fronts →
-        (Knows J.owner worker.old part witnessed.old → ⊥) →
+        (KnowsHistory J.owner worker.old part witnessed.old → ⊥) →
         (answered ≡ Err (Refusal.StrangeReceipt part (replies_at worker.old part))) × (witnessed.new ≡ witnessed.old)) }
     ensures refused { IfOk result (λ answered. part < length worker.old.fronts →
-        Knows J.owner worker.old part witnessed.old → IfSome (refusal_of witnessed.old.held command) (λ e.
+        KnowsHistory J.owner worker.old part witnessed.old → IfSome (refusal_of witnessed.old.held command) (λ e.
         (answered ≡ Err e) × (witnessed.new ≡ witnessed.old))) }
     ensures memory { IfOk result (λ answered. part < length worker.old.fronts →
-        Knows J.owner worker.old part witnessed.old → refusal_of witnessed.old.held command ≡ None →
+        KnowsHistory J.owner worker.old part witnessed.old → refusal_of witnessed.old.held command ≡ None →
         IfErr answered (λ e. e ≡ Refusal.OutOfMemory)) }
     ensures spared { IfOk result (λ answered. OnErr answered (Spares policy witnessed.old.held command
         witnessed.new.held.store)) }

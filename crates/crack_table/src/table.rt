@@ -2,7 +2,7 @@
 ghost use Rattle.std.specs.Prelude.{◌≡◌, ◌+◌, ◌≤◌, length};
 ghost use Rattle.crack_row.specs.Limits.{AreLimits};
 ghost use Rattle.crack_core.specs.Routes.{AreSplits};
-ghost use Rattle.crack_witness.specs.Witnesses.{AreApart};
+ghost use Rattle.crack_witness.specs.Witnesses.{OwnersDiffer};
 ghost use Rattle.crack_table.specs.Asking.{AsksTable};
 ghost use Rattle.crack_table.specs.Tables.{AnswersAt, LooksAt, MeasuresAt};
 
@@ -53,7 +53,7 @@ impl<J: Naming> Table<J> {
         ensures rising { AreSplits self.now.splits }
         ensures limited { AreLimits self.now.limits }
         ensures few { self.now.workers ≤ 64 }
-        ensures apart { AreApart J.owner self.now.locks }
+        ensures apart { OwnersDiffer J.owner self.now.locks }
     {
         let _ = &self.locks;
     }

@@ -80,7 +80,7 @@ impl Trial for Released {
     }
 }
 
-/// A gate is told of each checkpoint that was due after the lock is released.
+/// A gate is notified of each checkpoint that was due, after the lock is released.
 #[test]
 fn a_worker_releases_its_lock_before_a_note(rt: HostRuntime) {
     let limits = Limits {

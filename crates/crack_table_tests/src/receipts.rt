@@ -27,7 +27,7 @@ const ASKED: &[(usize, u32, &str, Option<Refusal>)] = &[
     (0, 2, "delete 2.0", None),
 ];
 
-/// Whether a receipt is as told.
+/// Whether a receipt is the expected one, `told`.
 fn is_told(receipt: &Receipt, told: &Receipt) -> bool {
     let place = [u64::from(receipt.part), receipt.position];
     place == [u64::from(told.part), told.position]
@@ -36,12 +36,12 @@ fn is_told(receipt: &Receipt, told: &Receipt) -> bool {
         && receipt.reply.is_same(&told.reply)
 }
 
-/// Whether an entry is as told.
+/// Whether an entry is the one of the expected receipt, `told`.
 fn is_entry(entry: &Entry, told: &Receipt) -> bool {
     entry.worker == told.worker && entry.command == told.command && entry.reply.is_same(&told.reply)
 }
 
-/// How many of these are of a partition.
+/// How many of the expected receipts are of a partition.
 fn number_in(told: &Vec<Receipt>, part: u32) -> u64 {
     let mut number = 0u64;
     'told: for one in told {
@@ -50,7 +50,7 @@ fn number_in(told: &Vec<Receipt>, part: u32) -> u64 {
     number
 }
 
-/// Asserts that a worker has one reply and, with an audit, one receipt more than before: the one that is told.
+/// Asserts that a worker has one reply and, with an audit, one receipt more than before: the expected one, `told`.
 fn assert_receipt<J: Naming>(
     rt: &impl Abort,
     worker: &Worker<J>,
@@ -69,7 +69,8 @@ fn assert_receipt<J: Naming>(
     }
 }
 
-/// Has a worker ask a command, asserts that it is answered or refused, and adds what is told of an answer.
+/// Has a worker ask a command, asserts that it is answered or refused, and adds the receipt that is expected for an
+/// answer.
 fn ask_one<J: Naming, R: Wait + Abort>(
     rt: &R,
     table: &Table<J>,
@@ -119,7 +120,7 @@ fn ask_all<J: Naming, R: Wait + Abort>(
     }
 }
 
-/// Asserts that a partition's list has the entries that are told of it, and no other, or that there is no list
+/// Asserts that a partition's list has the entries of the expected receipts, and no other, or that there is no list
 /// without an audit.
 fn assert_list<J: Naming>(
     rt: &impl Abort,

@@ -352,7 +352,7 @@ fn assert_case<J: Naming + Send + Sync, R: Threads + Wait + Sync + Abort>(
     assert_totals(rt, alloc, table, workers, case.totals);
 }
 
-/// The same at a table, once its book has its name `J`.
+/// Names the table's book `J`, opens the table, and asserts the same.
 fn assert_named<J: Naming + Send + Sync, R: Threads + Wait + Sync + Abort>(
     rt: &R,
     alloc: Global,

@@ -73,7 +73,7 @@ pub(crate) fn run_at<T: Trial + Copy, R: Wait + Abort>(
     run_named::<Brand, T, R>(rt, alloc, table, trial)
 }
 
-/// Carries out a trial at a table, once the table's book has its name `J`.
+/// Names the table's book `J`, opens the table, and carries out a trial at it.
 fn run_named<J: Naming, T: Trial + Copy, R: Wait + Abort>(
     rt: &R,
     alloc: Global,

@@ -11,7 +11,7 @@ use Rattle.crack_row.specs.contracts.command.Entry as Entry
 use Rattle.crack_witness.specs.contracts.receipt.Receipt as Receipt
 use Rattle.crack_part.proofs.Crosses.{command-send, reply-send, partition-send}
 use Rattle.std.proofs.Common.{[]}
-use Rattle.crack_witness.specs.Rules.{IsKept}
+use Rattle.crack_witness.specs.Rules.{IsBookKept}
 use Rattle.crack_witness.specs.declared.opening.Naming.{Ghosts}
 use Rattle.crack_witness.specs.contracts.scribe.Front as Front
 use Rattle.crack_witness.specs.contracts.scribe.Front.TheInside as front
@@ -33,14 +33,14 @@ receipt-send = struct_send (shape Receipt.the_type) (search sendable depth 30, (
 module _ (J : RattleType) (g : Ghosts J.Denot) (s : IsSend J) where
   -- seen, of
   front-inside : IsSend (front.the_field J g).row
-  front-inside = struct_send (shape (front.the_type J g)) (seen.the_send _ _ _ (record { holds = λ cells log. IsKept cells log; first = []; hinted = λ n log. Unit {0}; shows = λ log. []; keeps = λ names log. ftrue; moves = λ ask before after answer. Unit {0} }), (search (sendable, crosses) depth 30, tt))
+  front-inside = struct_send (shape (front.the_type J g)) (seen.the_send _ _ _ (record { holds = λ cells log. IsBookKept cells log; first = []; hinted = λ n log. Unit {0}; shows = λ log. []; keeps = λ names log. ftrue; moves = λ ask before after answer. Unit {0} }), (search (sendable, crosses) depth 30, tt))
 
   pub front-send : IsSend (Front.the_row J g)
   front-send = let i = front-inside in search (sendable, crosses) depth 30
 
   -- part, word, pen, seen, of
   scribe-inside : IsSend (scribe.the_field J g).row
-  scribe-inside = struct_send (shape (scribe.the_type J g)) (search (sendable, crosses) depth 30, (search (sendable, crosses, word.the_send) depth 30, (pen.the_send, (seen.the_send _ _ _ (record { holds = λ cells log. IsKept cells log; first = []; hinted = λ n log. Unit {0}; shows = λ log. []; keeps = λ names log. ftrue; moves = λ ask before after answer. Unit {0} }), (search (sendable, crosses) depth 30, tt)))))
+  scribe-inside = struct_send (shape (scribe.the_type J g)) (search (sendable, crosses) depth 30, (search (sendable, crosses, word.the_send) depth 30, (pen.the_send, (seen.the_send _ _ _ (record { holds = λ cells log. IsBookKept cells log; first = []; hinted = λ n log. Unit {0}; shows = λ log. []; keeps = λ names log. ftrue; moves = λ ask before after answer. Unit {0} }), (search (sendable, crosses) depth 30, tt)))))
 
   scribe-send : IsSend (Scribe.the_row J g)
   scribe-send = let i = scribe-inside in search (sendable, crosses) depth 30

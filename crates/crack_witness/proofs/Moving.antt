@@ -8,7 +8,7 @@ use Rattle.logbook.specs.Pages.{Cell, cell, adds, gives, keeps, no_nib, nib, Nib
 use Rattle.crack_witness.specs.declared.event.Event.{Event}
 use Rattle.crack_row.specs.declared.command.Entry.{Entry}
 use Rattle.crack_plain.specs.Plain.{AreReplies, no_rows}
-use Rattle.crack_witness.specs.Rules.{Every, NoneOf, Home, Chain, IsKept, Makes, Opens, Adds, IsAlone, Looks, opening, place, row}
+use Rattle.crack_witness.specs.Rules.{Every, NoneOf, Home, Chain, IsBookKept, Makes, Opens, Adds, IsAlone, Looks, opening, place, row}
 use Rattle.crack_witness.specs.Keeps.{Among, HasWord, HasOwner}
 use Rattle.crack_witness.specs.Histories.{history_of, AreHistories, AreEmpty}
 use Rattle.crack_witness.proofs.Lists.{among_prefix, among_every, every_weaker, every_append, every_right, every_left, among_right, among_left, prefix_trans, history_bare, history_none, history_own, history_other, history_rest}
@@ -23,7 +23,7 @@ abbrev pub moved : List Event → List Event → ℕ → Type 0
 moved xs ys n = Unit {0}
 
 -- a word of which an event was seen is at home
-pub word_home : (cs : List Cell) (log v : List Event) (k : ℕ) → IsKept cs log → IsPrefix v log → HasWord k v → Home cs k
+pub word_home : (cs : List Cell) (log v : List Event) (k : ℕ) → IsBookKept cs log → IsPrefix v log → HasWord k v → Home cs k
 word_home cs log v k kept pre has =
     let a = among_every (λ (e : Event). Home cs e.word) (λ (e : Event). e.word ≡ k) log kept.words (among_prefix (λ (e : Event). e.word ≡ k) v log pre has) in
     subst (Home cs) a.1 a.2
@@ -38,7 +38,7 @@ pub grown_length : (cs : List Cell) (k x : ℕ) → length (grown cs k x) ≡ le
 grown_length cs k x = omega (arith, length-append (slice_set cs k (x, true)) ((0, false) ∷ []), length_set cs k (x, true))
 
 -- the rule stays with one more cell
-pub kept_grown : (cs : List Cell) (log : List Event) (k x : ℕ) → IsKept cs log → IsKept (grown cs k x) log
+pub kept_grown : (cs : List Cell) (log : List Event) (k x : ℕ) → IsBookKept cs log → IsBookKept (grown cs k x) log
 kept_grown cs log k x kept = record {
   words = every_weaker (λ (e : Event). Home cs e.word) (λ (e : Event). Home (grown cs k x) e.word) (λ e h. grown_home cs k x e.word h) log kept.words;
   owners = every_weaker (λ (e : Event). e.owner < length cs) (λ (e : Event). e.owner < length (grown cs k x)) (λ e h. omega (arith, h, grown_length cs k x)) log kept.owners;
@@ -47,14 +47,14 @@ kept_grown cs log k x kept = record {
 }
 
 pub makes_moves : (v : List Event) (k : ℕ) (ask : Event) → HasWord k v
-    → Moves IsKept shown moved k (v, (no_nib, None)) (λ n. either (n == 0) 0 n) (Makes (step k 0 0 ask) (v, (no_nib, None)))
+    → Moves IsBookKept shown moved k (v, (no_nib, None)) (λ n. either (n == 0) 0 n) (Makes (step k 0 0 ask) (v, (no_nib, None)))
 makes_moves v k ask has cs log kept pre away =
     let h = word_home cs log v k kept pre has in
     let x = either ((cell cs k).0 == 0) 0 (cell cs k).0 in
-    (h.0, h.1, (adds, [], None, tt, subst (IsKept (grown cs k x)) (sym (append-nil log)) (kept_grown cs log k x kept), inl (refl, refl), refl))
+    (h.0, h.1, (adds, [], None, tt, subst (IsBookKept (grown cs k x)) (sym (append-nil log)) (kept_grown cs log k x kept), inl (refl, refl), refl))
 
 -- the rule stays with one more cell and the first event of the owner that it names
-pub kept_opened : (cs : List Cell) (log : List Event) (k x word : ℕ) → Home cs word → IsKept cs log → IsKept (grown cs k x) (log ++ opening (length cs) word ∷ [])
+pub kept_opened : (cs : List Cell) (log : List Event) (k x word : ℕ) → Home cs word → IsBookKept cs log → IsBookKept (grown cs k x) (log ++ opening (length cs) word ∷ [])
 kept_opened cs log k x word h kept =
     let g = kept_grown cs log k x kept in
     let e = opening (length cs) word in record {
@@ -65,7 +65,7 @@ kept_opened cs log k x word h kept =
     }
 
 pub opens_moves : (v : List Event) (k : ℕ) (ask : Event) → HasWord k v → ask.word ≡ k
-    → Moves IsKept shown moved k (v, (no_nib, None)) (λ n. either (n == 0) 0 n) (Opens (step k 0 0 ask) (v, (no_nib, None)))
+    → Moves IsBookKept shown moved k (v, (no_nib, None)) (λ n. either (n == 0) 0 n) (Opens (step k 0 0 ask) (v, (no_nib, None)))
 opens_moves v k ask has at cs log kept pre away =
     let h = word_home cs log v k kept pre has in
     let x = either ((cell cs k).0 == 0) 0 (cell cs k).0 in
@@ -98,7 +98,7 @@ legal_more log e false owner is old new = subst (AreReplies no_rows) (sym (histo
 pub kept_added : (cs : List Cell) (xs : List Event) (d : Event) (rest : List Event) (k x : ℕ) (p : Nib) (e : Event)
     → d.owner ≡ e.owner → d.next ≡ p.key → p.key < length cs → (Home cs p.key → ⊥) → Home cs e.word
     → AreReplies no_rows (history_of e.owner (xs ++ d ∷ []) ++ option_to_list e.entry)
-    → IsKept cs ((xs ++ d ∷ []) ++ rest) → IsKept (given_home cs k x p) (((xs ++ d ∷ []) ++ rest) ++ e ∷ [])
+    → IsBookKept cs ((xs ++ d ∷ []) ++ rest) → IsBookKept (given_home cs k x p) (((xs ++ d ∷ []) ++ rest) ++ e ∷ [])
 kept_added cs xs d rest k x p e own at less away h may kept =
     let log = (xs ++ d ∷ []) ++ rest in
     let ds = given_home cs k x p in
@@ -116,7 +116,7 @@ kept_added cs xs d rest k x p e own at less away h may kept =
 pub adds_moves : (v xs : List Event) (d : Event) (k : ℕ) (p : Nib) (e : Event)
     → IsPrefix (xs ++ d ∷ []) v → d.owner ≡ e.owner → d.next ≡ p.key → p.right ≡ may_write → d.word ≡ k → e.word ≡ k
     → AreReplies no_rows (history_of e.owner (xs ++ d ∷ []) ++ option_to_list e.entry)
-    → Moves IsKept shown moved k (v, (p, None)) (λ n. either (n == 0) 0 n) (Adds (step k 0 0 e) (v, (p, None)))
+    → Moves IsBookKept shown moved k (v, (p, None)) (λ n. either (n == 0) 0 n) (Adds (step k 0 0 e) (v, (p, None)))
 adds_moves v xs d k p e begins own at right has stands may cs log kept pre away =
     let b = xs ++ d ∷ [] in
     let q : IsPrefix b log = prefix_trans b v log begins pre in
@@ -124,8 +124,8 @@ adds_moves v xs d k p e begins own at right has stands may cs log kept pre away 
     let x = either ((cell cs k).0 == 0) 0 (cell cs k).0 in
     let off = away right in
     let not_home : Home cs p.key → ⊥ = λ there. absurd (cc (there.1, off.1)) in
-    let kept' : IsKept cs (b ++ q.0) = subst (IsKept cs) (sym q.1) kept in
-    let new : IsKept (given_home cs k x p) (log ++ e ∷ []) = subst (λ (l : List Event). IsKept (given_home cs k x p) (l ++ e ∷ [])) q.1 (kept_added cs xs d q.0 k x p e own at off.0 not_home (subst (Home cs) (sym stands) h) may kept') in
+    let kept' : IsBookKept cs (b ++ q.0) = subst (IsBookKept cs) (sym q.1) kept in
+    let new : IsBookKept (given_home cs k x p) (log ++ e ∷ []) = subst (λ (l : List Event). IsBookKept (given_home cs k x p) (l ++ e ∷ [])) q.1 (kept_added cs xs d q.0 k x p e own at off.0 not_home (subst (Home cs) (sym stands) h) may kept') in
     (h.0, h.1, (gives, e ∷ [], None, right, new, inl (refl, refl), (log, refl, pre, is_alone cs log e.owner p.key kept.chain not_home, new.legal)))
 
 -- the owner's history has one more entry
@@ -161,7 +161,7 @@ pub row_history : (owner n : ℕ) → history_of owner (row n) ≡ []
 row_history owner zero = refl
 row_history owner (suc n) = history_bare owner (row n) (place n) (0 == owner) refl refl ∙ row_history owner n
 
-pub row_kept : (n : ℕ) → IsKept (replicate n (0, true)) (row n)
+pub row_kept : (n : ℕ) → IsBookKept (replicate n (0, true)) (row n)
 row_kept n = record {
   words = row_each (λ (e : Event). Home (replicate n (0, true)) e.word) n n (omega arith) (λ k l. home_replicate n k l);
   owners = row_each (λ (e : Event). e.owner < length (replicate n (0, true))) n n (omega arith) (λ k l. let h = home_replicate n 0 (omega (arith, l)) in h.0);
@@ -178,7 +178,7 @@ row_has zero k less = absurd (omega (arith, less))
 row_has (suc n) k less = row_has_last n k (k == n) refl less (λ l. row_has n k l)
 
 -- the rule stays where a word at home is written
-pub kept_set : (cs : List Cell) (log : List Event) (k x : ℕ) → IsKept cs log → IsKept (slice_set cs k (x, true)) log
+pub kept_set : (cs : List Cell) (log : List Event) (k x : ℕ) → IsBookKept cs log → IsBookKept (slice_set cs k (x, true)) log
 kept_set cs log k x kept = record {
   words = every_weaker (λ (e : Event). Home cs e.word) (λ (e : Event). Home (slice_set cs k (x, true)) e.word) (λ e h. home_set cs k e.word x h) log kept.words;
   owners = every_weaker (λ (e : Event). e.owner < length cs) (λ (e : Event). e.owner < length (slice_set cs k (x, true))) (λ e h. omega (arith, h, length_set cs k (x, true))) log kept.owners;
@@ -187,11 +187,11 @@ kept_set cs log k x kept = record {
 }
 
 pub looks_moves : (v : List Event) (k : ℕ) (p : Nib) (ask : Event) → HasWord k v → p.right ≡ may_write
-    → Moves IsKept shown moved k (v, (p, None)) (λ n. either (n == 0) 0 n) (Looks (step k 0 0 ask) (v, (p, None)))
+    → Moves IsBookKept shown moved k (v, (p, None)) (λ n. either (n == 0) 0 n) (Looks (step k 0 0 ask) (v, (p, None)))
 looks_moves v k p ask has right cs log kept pre away =
     let h = word_home cs log v k kept pre has in
     let x = either ((cell cs k).0 == 0) 0 (cell cs k).0 in
     let off = away right in
     let not_home : Home cs p.key → ⊥ = λ there. absurd (cc (there.1, off.1)) in
     let all : log ++ [] ≡ log = append-nil log in
-    (h.0, h.1, (keeps, [], None, tt, subst (IsKept (slice_set cs k (x, true))) (sym all) (kept_set cs log k x kept), inl (refl, refl), (refl, λ owner. subst (IsAlone owner p.key) (sym all) (is_alone cs log owner p.key kept.chain not_home))))
+    (h.0, h.1, (keeps, [], None, tt, subst (IsBookKept (slice_set cs k (x, true))) (sym all) (kept_set cs log k x kept), inl (refl, refl), (refl, λ owner. subst (IsAlone owner p.key) (sym all) (is_alone cs log owner p.key kept.chain not_home))))

@@ -8,7 +8,7 @@ use Rattle.crack_part.specs.Parts.{Part}
 use Rattle.crack_witness.specs.declared.event.Event.{Event}
 use Rattle.crack_witness.specs.Rules.{NoneOf, OwnerState}
 use Rattle.crack_witness.specs.Keeps.{HasOwner, IsOwnerAt, AreOwners, IsNew}
-use Rattle.crack_witness.specs.Witnesses.{OpenedState, WitnessedState, AreDistinct, AreNames, AreApart, IsNewAt, AreNewFrom}
+use Rattle.crack_witness.specs.Witnesses.{OpenedState, WitnessedState, AreDistinct, AreNames, OwnersDiffer, IsNewAt, AreNewFrom}
 use Rattle.crack_witness.proofs.Lists.{owners_differ, among_prefix}
 
 abbrev pub ids_of : List OwnerState → List ℕ
@@ -32,7 +32,7 @@ pub owner_last : (b : Book) (own : ℕ → ℕ) (xs : List OwnerState) (x : Owne
 owner_last b own xs x all = subst (IsOwnerAt b own (length xs)) (get_or_push xs x x (length xs) refl) (all (length xs) x (omega (arith, length-append xs (x ∷ []))))
 
 -- partitions by distinct owners have no owner in common
-pub names_apart : (b : Book) (own : ℕ → ℕ) (opened : OpenedState) → AreNames b own opened → AreDistinct opened.ids → AreApart own (length opened.ids)
+pub names_apart : (b : Book) (own : ℕ → ℕ) (opened : OpenedState) → AreNames b own opened → AreDistinct opened.ids → OwnersDiffer own (length opened.ids)
 names_apart b own opened names distinct one other less within = rw (names.owner_is one, names.owner_is other) (distinct one other 0 less within)
 
 -- the remaining partitions, and those that were witnessed, with the numbers after them

@@ -14,8 +14,8 @@ use Rattle.crack_witness.specs.Histories.{history_of, calls_by, calls_at}
 use Rattle.crack_witness.specs.Rules.{OwnerState}
 
 -- if there is a list, it has room for one more item
-abbrev pub HasRoom : {X : Type 0} → Option (Vec X) → Type 0
-HasRoom list = IfSome list (λ items. vec_len items < vec_capacity items)
+abbrev pub HasRoomForOne : {X : Type 0} → Option (Vec X) → Type 0
+HasRoomForOne list = IfSome list (λ items. vec_len items < vec_capacity items)
 
 -- P holds for one element
 abbrev pub Among : {X : Type 0} → (X → Type 0) → List X → Type 0

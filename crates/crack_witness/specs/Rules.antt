@@ -26,7 +26,7 @@ Chain cs [] = Unit {0}
 Chain cs (e ∷ es) = Every (λ (d : Event). d.owner ≡ e.owner → Home cs e.next) es × Chain cs es
 
 -- the rule of the book, between any two steps
-pub record IsKept (cells : List Cell) (log : List Event) : Type 0 where
+pub record IsBookKept (cells : List Cell) (log : List Event) : Type 0 where
   pub words : Every (λ (e : Event). Home cells e.word) log
   pub owners : Every (λ (e : Event). e.owner < length cells) log
   pub chain : Chain cells log

@@ -31,8 +31,8 @@ pub record AreNames (book : Book) (owner : ℕ → ℕ) (opened : OpenedState) :
   pub owner_is : (part : ℕ) → owner part ≡ slice_index_or opened.ids part 0
 
 -- no two of this many partitions have the same owner, and so the same history
-abbrev pub AreApart : (ℕ → ℕ) → ℕ → Type 0
-AreApart owner count = (one other : ℕ) → one < other → other < count → owner one ≢ owner other
+abbrev pub OwnersDiffer : (ℕ → ℕ) → ℕ → Type 0
+OwnersDiffer owner count = (one other : ℕ) → one < other → other < count → owner one ≢ owner other
 
 -- a partition with its number, the events that its scribe has seen, the number of workers whose entries it counts,
 -- and the list of its entries, if there is an audit
@@ -123,7 +123,7 @@ HasJustItsOwn owner a w = calls_at owner w.part a.worker w.log ≡ calls_at owne
 
 -- what a worker has seen of a partition's history is a prefix of it, and the history has exactly the worker's
 -- entries for which it received replies
-pub record Agrees (owner : ℕ → ℕ) (a : WorkerState) (w : WitnessedState) : Type 0 where
+pub record HasSeen (owner : ℕ → ℕ) (a : WorkerState) (w : WitnessedState) : Type 0 where
   pub covered : IsPrefix (history_of (owner w.part) a.seen) (history_of (owner w.part) w.log)
   pub mine : calls_at owner w.part a.worker w.log ≡ calls_at owner w.part a.worker (slice_index_or a.fronts w.part [])
 
@@ -138,8 +138,8 @@ replies_at a part = slice_index_or a.counts part 0
 
 -- the partition has this number, and its history has as many entries of the worker as the worker received replies
 -- there
-abbrev pub Knows : (ℕ → ℕ) → WorkerState → ℕ → WitnessedState → Type 0
-Knows owner a part w = (w.part ≡ part) × IsInStep owner w a.worker (replies_at a part)
+abbrev pub KnowsHistory : (ℕ → ℕ) → WorkerState → ℕ → WitnessedState → Type 0
+KnowsHistory owner a part w = (w.part ≡ part) × IsInStep owner w a.worker (replies_at a part)
 
 -- Why a worker that asks partition `part` may be refused by the partition that is passed: `NoSuchPartition` if it
 -- knows of none with this number; `StrangeReceipt`, with the number and the number of its replies there, if the
@@ -147,7 +147,7 @@ Knows owner a part w = (w.part ≡ part) × IsInStep owner w a.worker (replies_a
 abbrev pub MayRefuseAt : (ℕ → ℕ) → WitnessedState → ℕ → Command → WorkerState → Refusal → Type 0
 MayRefuseAt owner w part command a e =
     ((e ≡ NoSuchPartition) × (length a.fronts ≤ part))
-    ⊎ (((e ≡ StrangeReceipt part (replies_at a part)) × (Knows owner a part w → ⊥))
+    ⊎ (((e ≡ StrangeReceipt part (replies_at a part)) × (KnowsHistory owner a part w → ⊥))
     ⊎ ((e ≡ OutOfMemory) ⊎ (refusal_of w.held command ≡ Some e)))
 
 -- the number of a worker's replies from all partitions
@@ -165,7 +165,7 @@ pub record MayDiffer (owner : ℕ → ℕ) (workers : List WorkerState) (parts :
   pub at : WitnessedState
   pub there : place < length parts
   pub is_at : slice_index_or parts place at ≡ at
-  pub earlier : All (λ (w : WitnessedState). All (λ (a : WorkerState). Agrees owner a w) workers) (take place parts)
+  pub earlier : All (λ (w : WitnessedState). All (λ (a : WorkerState). HasSeen owner a w) workers) (take place parts)
   pub position : ℕ
   pub differs : Any (λ (a : WorkerState). Differs owner a at × (position ≡ replies_at a at.part)) workers
   pub cause : e ≡ StrangeReceipt at.part position

@@ -1,6 +1,6 @@
 //! Comparing partitions with workers, when a table is closed.
 ghost use Rattle.std.specs.Prelude.{◌≡◌, All, Any, IfNone, IfSome, IfErr, OnOk};
-ghost use Rattle.crack_witness.specs.Witnesses.{WorkerState, WitnessedState, Agrees, Differs, MayDiffer};
+ghost use Rattle.crack_witness.specs.Witnesses.{WorkerState, WitnessedState, HasSeen, Differs, MayDiffer};
 ghost use Rattle.crack_witness.specs.Witnesses.{replies_at};
 
 use crate::opening::Naming;
@@ -17,7 +17,7 @@ pub fn compare<J: Naming>(
     parts: &mut Vec<Witnessed<J>>,
 ) -> Result<(), Refusal>
     ensures same { parts.new.items ≡ parts.old.items }
-    ensures agree { OnOk result (All (λ (w : WitnessedState). All (λ (a : WorkerState). Agrees J.owner a w)
+    ensures agree { OnOk result (All (λ (w : WitnessedState). All (λ (a : WorkerState). HasSeen J.owner a w)
         workers.now.items) parts.old.items) }
     ensures differs { IfErr result (MayDiffer J.owner workers.now.items parts.old.items) }
 {
@@ -34,7 +34,7 @@ pub fn compare<J: Naming>(
 /// entries of it. Returns the number of replies of the first one, or `None` if there is none. O(workers).
 fn first_difference<J: Naming>(workers: &Vec<Worker<J>>, part: &mut Witnessed<J>) -> Option<u64>
     ensures same { part.new ≡ part.old }
-    ensures none { IfNone result (All (λ (a : WorkerState). Agrees J.owner a part.old) workers.now.items) }
+    ensures none { IfNone result (All (λ (a : WorkerState). HasSeen J.owner a part.old) workers.now.items) }
     ensures some { IfSome result (λ position. Any (λ (a : WorkerState). Differs J.owner a part.old ×
         (position ≡ replies_at a part.old.part)) workers.now.items) }
 {

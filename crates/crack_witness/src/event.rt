@@ -22,9 +22,9 @@ pub struct Law;
 impl Rule<Event, u64> for Law {
     ghost use Rattle.std.specs.Prelude.{[]};
     ghost use base.Fml.{ftrue};
-    ghost use Rattle.crack_witness.specs.Rules.{IsKept};
+    ghost use Rattle.crack_witness.specs.Rules.{IsBookKept};
 
-    ghost holds = { λ cells log. IsKept cells log };
+    ghost holds = { λ cells log. IsBookKept cells log };
 
     ghost first = { [] };
 

@@ -5,7 +5,7 @@ ghost use Rattle.crack_part.specs.Parts.{state_of, table_of, Serves, Spares};
 ghost use Rattle.crack_part.specs.Refusals.{refusal_of};
 ghost use Rattle.crack_part.specs.Upkeep.{answered};
 ghost use Rattle.crack_witness.specs.Audits.{listed, empty_list, and_one};
-ghost use Rattle.crack_witness.specs.Keeps.{HasRoom};
+ghost use Rattle.crack_witness.specs.Keeps.{HasRoomForOne};
 
 use crate::receipt::Receipt;
 use crack_part::Partition;
@@ -98,8 +98,8 @@ fn make_room(
     command: &Command,
 ) -> Result<u64, Refusal>
     ensures position { IfOk result (λ n. n ≡ accepted_of (table_of partition.now)) }
-    ensures entries { (listed entries.new ≡ listed entries.old) × OnOk result (HasRoom entries.new) }
-    ensures receipts { (listed receipts.new ≡ listed receipts.old) × OnOk result (HasRoom receipts.new) }
+    ensures entries { (listed entries.new ≡ listed entries.old) × OnOk result (HasRoomForOne entries.new) }
+    ensures receipts { (listed receipts.new ≡ listed receipts.old) × OnOk result (HasRoomForOne receipts.new) }
     ensures goes_on { OnOk result (refusal_of partition.now command.now ≡ None) }
     ensures refused { IfSome (refusal_of partition.now command.now) (λ r. IfErr result (λ e. e ≡ r)) }
     ensures memory { refusal_of partition.now command.now ≡ None → IfErr result (λ e. e ≡ Refusal.OutOfMemory) }
@@ -115,7 +115,7 @@ fn make_room(
 /// Makes room for one more item in a list, if there is a list: O(1), amortised. Refused if no memory is found.
 pub(crate) fn reserve<T: Drop>(list: &mut Option<Vec<T>>) -> Result<(), AllocError>
     ensures same { listed list.new ≡ listed list.old }
-    ensures room { OnOk result (HasRoom list.new) }
+    ensures room { OnOk result (HasRoomForOne list.new) }
 {
     if let Some(items) = list {
         if items.len() == items.capacity() {
@@ -127,7 +127,7 @@ pub(crate) fn reserve<T: Drop>(list: &mut Option<Vec<T>>) -> Result<(), AllocErr
 
 /// Adds an item to a list, if there is a list. It must have room.
 fn add<T: Drop>(list: &mut Option<Vec<T>>, item: T)
-    requires room { HasRoom list.old }
+    requires room { HasRoomForOne list.old }
     ensures { listed list.new ≡ and_one (listed list.old) item }
 {
     if let Some(items) = list {

@@ -3,7 +3,7 @@ ghost use Rattle.std.specs.Prelude.{◌≡◌, ◌+◌, ◌<◌, ◌≤◌, ◌^
 ghost use mathlib.Core.List.{IsPrefix};
 ghost use Rattle.crack_part.specs.Parts.{Part, table_of};
 ghost use Rattle.crack_witness.specs.Histories.{history_of, AreEmpty, IsPastOf};
-ghost use Rattle.crack_witness.specs.Witnesses.{AreDistinct, AreNames, AreApart, AreNewFrom};
+ghost use Rattle.crack_witness.specs.Witnesses.{AreDistinct, AreNames, OwnersDiffer, AreNewFrom};
 ghost use Rattle.crack_witness.specs.Rules.{row, NoneOf};
 ghost use Rattle.crack_witness.specs.Keeps.{HasWord, HasOwner, IsNew, AreOwners};
 
@@ -136,7 +136,7 @@ impl Opened {
         requires count { length partitions.items ≡ length self.ids }
         ensures front { IfOk result (λ r. AreEmpty r.0) }
         ensures parts { IfOk result (λ r. AreNewFrom J.owner workers is_audited 0 partitions.items r.1.items) }
-        ensures apart { AreApart J.owner (length partitions.items) }
+        ensures apart { OwnersDiffer J.owner (length partitions.items) }
     {
         let (front, mut owners) = self.named::<J>();
         let mut partitions = partitions;
@@ -150,7 +150,7 @@ impl Opened {
         ensures owners { AreOwners J.book J.owner result.1.items }
         ensures count { (length result.1.items ≡ length self.ids) × (length result.1.items < 2 ^ 32) }
         ensures front { AreEmpty result.0 }
-        ensures apart { AreApart J.owner (length self.ids) }
+        ensures apart { OwnersDiffer J.owner (length self.ids) }
     {
         let Opened { seen, owners } = self;
         (Front::new(seen), owners)

@@ -10,7 +10,7 @@ ghost use Rattle.crack_part.specs.Refusals.{refusal_of};
 ghost use Rattle.crack_part.specs.Upkeep.{answered};
 ghost use Rattle.crack_witness.specs.Audits.{and_one};
 ghost use Rattle.crack_witness.specs.Histories.{history_of, calls_at, upkept_past, AreHistories, AreEmpty};
-ghost use Rattle.crack_witness.specs.Witnesses.{IsInStep, IsGiven, HasJustItsOwn, IsNewWorker, Knows, MayRefuseAt};
+ghost use Rattle.crack_witness.specs.Witnesses.{IsInStep, IsGiven, HasJustItsOwn, IsNewWorker, KnowsHistory, MayRefuseAt};
 ghost use Rattle.crack_witness.specs.Witnesses.{past_of, receipts_in, replies_at, replies_to};
 
 use crate::listing::{list_for, reserve};
@@ -199,12 +199,12 @@ impl<J: Naming> Worker<J> {
         ensures seen { IsPrefix self.old.seen self.new.seen × IsPrefix witnessed.old.log witnessed.new.log }
         ensures worker { self.new.worker ≡ self.old.worker }
         ensures nowhere { length self.old.fronts ≤ part → result ≡ Err Refusal.NoSuchPartition }
-        ensures strange { part < length self.old.fronts → (Knows J.owner self.old part witnessed.old → ⊥) →
+        ensures strange { part < length self.old.fronts → (KnowsHistory J.owner self.old part witnessed.old → ⊥) →
             (result ≡ Err (Refusal.StrangeReceipt part (replies_at self.old part))) × (witnessed.new ≡ witnessed.old) }
-        ensures refused { part < length self.old.fronts → Knows J.owner self.old part witnessed.old →
+        ensures refused { part < length self.old.fronts → KnowsHistory J.owner self.old part witnessed.old →
             IfSome (refusal_of witnessed.old.held command) (λ e. (result ≡ Err e) ×
             (witnessed.new ≡ witnessed.old)) }
-        ensures memory { part < length self.old.fronts → Knows J.owner self.old part witnessed.old →
+        ensures memory { part < length self.old.fronts → KnowsHistory J.owner self.old part witnessed.old →
             refusal_of witnessed.old.held command ≡ None → IfErr result (λ e. e ≡ Refusal.OutOfMemory) }
         ensures causes { IfErr result (MayRefuseAt J.owner witnessed.old part command self.old) }
         ensures spared { OnErr result (Spares policy witnessed.old.held command witnessed.new.held.store) }

@@ -16,7 +16,7 @@ use Rattle.crack_table.specs.Tables.{TableState}
 use Rattle.crack_witness.specs.declared.event.Event.{Event}
 use Rattle.crack_plain.specs.Plain.{AreReplies, no_rows}
 use Rattle.crack_witness.specs.Histories.{history_of, calls_by, calls_at}
-use Rattle.crack_witness.specs.Witnesses.{WorkerState, WitnessedState, Agrees}
+use Rattle.crack_witness.specs.Witnesses.{WorkerState, WitnessedState, HasSeen}
 use Rattle.crack_witness.proofs.Lists.{history_append, prefix_trans}
 use Rattle.crack_table.specs.Asking.{AsksTable}
 use Rattle.crack_table.specs.Audits.{histories_of}
@@ -164,7 +164,7 @@ module _ (owner : ℕ → ℕ) (table : TableState) (may : ℕ → ℕ → Type 
 
   module _ (parts : List WitnessedState) (last : WorkerState) (gathered : IsGathered owner table parts last) where
     -- a partition of the table, and its history, as they were gathered
-    found : (part : ℕ) → part ≤ length table.splits → (w : WitnessedState) × (w.part ≡ part) × (slice_index_or (histories_of owner parts) part [] ≡ history_of (owner w.part) w.log) × Agrees owner last w
+    found : (part : ℕ) → part ≤ length table.splits → (w : WitnessedState) × (w.part ≡ part) × (slice_index_or (histories_of owner parts) part [] ≡ history_of (owner w.part) w.log) × HasSeen owner last w
     found part there =
         let count = gathered.2.tables.count in
         let less : part < length parts = omega (arith, there, count, length-map parts (λ (w : WitnessedState). w.held)) in
@@ -173,7 +173,7 @@ module _ (owner : ℕ → ℕ) (table : TableState) (may : ℕ → ℕ → Type 
           w,
           (gathered.2.numbered part w is).0,
           get_or-map (λ (v : WitnessedState). history_of (owner v.part) v.log) parts part (first_of parts part less) [] less,
-          All-contains (λ (a : WorkerState). Agrees owner a w) gathered.0 last (gathered.2.agree part (first_of parts part less) less) gathered.1,
+          All-contains (λ (a : WorkerState). HasSeen owner a w) gathered.0 last (gathered.2.agree part (first_of parts part less) less) gathered.1,
         )
 
     legal : All (AreReplies no_rows) (histories_of owner parts)

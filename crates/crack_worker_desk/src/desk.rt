@@ -54,14 +54,14 @@ impl<'a, R: Wait, G: Gate, J: Naming> WorkerDesk<'a, R, G, J> {
 
 impl<'a, R: Wait, G: Gate, J: Naming> Desk for WorkerDesk<'a, R, G, J> {
     ghost use Rattle.std.specs.Prelude.{◌≡◌, None};
-    ghost use Rattle.crack_core.specs.Steps.{bounds_of};
+    ghost use Rattle.crack_core.specs.Steps.{bounds_from};
     ghost use Rattle.std.specs.List.{sum};
     ghost use Rattle.crack_table.specs.Asking.{AsksTable};
     ghost use Rattle.crack_worker_desk.specs.Leads.{table_leads};
 
     ghost tables = { λ d. None };
 
-    ghost bounds = { λ d. bounds_of d.table.now.limits };
+    ghost bounds = { λ d. bounds_from d.table.now.limits };
 
     ghost splits = { λ d. d.table.now.splits };
 

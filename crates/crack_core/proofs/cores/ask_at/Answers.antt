@@ -6,7 +6,7 @@ use Rattle.crack_row.specs.declared.refusal.Refusal.TheVariants.{OutOfMemory}
 use Rattle.crack_part.specs.Parts.{Part, IsSound, table_of, Serves, Spares}
 use Rattle.crack_part.specs.Refusals.{refusal_of}
 use Rattle.crack_row.specs.declared.limit.Limits.{Limits}
-use Rattle.crack_core.specs.Steps.{bounds_of, mapped, tables_of, tables_after}
+use Rattle.crack_core.specs.Steps.{bounds_from, mapped, tables_of, tables_after}
 use Rattle.crack_core.specs.Jobs.{after_job, KeepsJobs}
 use Rattle.crack_core.specs.declared.step.Job.TheVariants.{Perform}
 use Rattle.crack_core.specs.declared.step.Done.TheVariants.{Replied}
@@ -38,7 +38,7 @@ pub returns-clause-after : goal.returns-clause-after
 returns-clause-after c = λ splits limits are.
     let within : c.args.step.part < length c.args.partitions.now = omega arith in
     let own : (asked c).limits ≡ limits = are.alike c.args.step.part c.index-partitions-part.result within in
-    subst (λ (l : Limits). tables_of (set c.args.partitions.now c.args.step.part c.apply-answered.new.self) ≡ tables_after (bounds_of l) (tables_of c.args.partitions.now) c.args.step.part c.args.step.command c.apply-answered.result) own (tables-set (asked c).limits c.args.partitions.now c.apply-answered.new.self c.index-partitions-part.result c.args.step c.apply-answered.result within (kept c))
+    subst (λ (l : Limits). tables_of (set c.args.partitions.now c.args.step.part c.apply-answered.new.self) ≡ tables_after (bounds_from l) (tables_of c.args.partitions.now) c.args.step.part c.args.step.command c.apply-answered.result) own (tables-set (asked c).limits c.args.partitions.now c.apply-answered.new.self c.index-partitions-part.result c.args.step c.apply-answered.result within (kept c))
 
 pub returns-clause-kept : goal.returns-clause-kept
 returns-clause-kept c = λ splits limits are.

@@ -3,7 +3,7 @@ use Rattle.std.proofs.lemmas.List.{take_more}
 use Rattle.std.specs.Prelude.{slice_get}
 use Rattle.std.specs.Option.{option_map}
 use Rattle.crack_core.specs.declared.step.Job.{Job}
-use Rattle.crack_core.specs.Steps.{bounds_of, tables_of}
+use Rattle.crack_core.specs.Steps.{bounds_from, tables_of}
 use Rattle.crack_core.specs.Jobs.{after_jobs}
 use Rattle.crack_core.proofs.JobLaws.{KeepsJobs-push, AreExpectedOutcomes-push, DoesAll-push, outcome-alike}
 use Rattle.crack_core.proofs.cores.do_all.Goals as goal
@@ -26,7 +26,7 @@ jobs-preserved c =
       room = omega (arith, before.room, c.push_reserved.ensures.capacity);
       count = omega (arith, before.count, ap length c.push_reserved.ensures.items, length-append results (r ∷ []));
       replies = λ splits limits are. rw (grown, c.push_reserved.ensures.items) (AreExpectedOutcomes-push limits splits (tables_of old) front results j r (before.replies splits limits are)
-          (outcome-alike (bounds_of limits) splits (slice_get (tables_of now)) (λ part. option_map (after_jobs limits part front results) (slice_get (tables_of old) part)) j r (before.kept splits limits are) (c.do_job-result.ensures.outcome splits limits (before.parts splits limits are))));
+          (outcome-alike (bounds_from limits) splits (slice_get (tables_of now)) (λ part. option_map (after_jobs limits part front results) (slice_get (tables_of old) part)) j r (before.kept splits limits are) (c.do_job-result.ensures.outcome splits limits (before.parts splits limits are))));
       kept = λ splits limits are. rw (grown, c.push_reserved.ensures.items) (KeepsJobs-push limits (tables_of old) (tables_of now) (tables_of c.do_job-result.new.partitions) front results j r long (before.kept splits limits are) (c.do_job-result.ensures.kept splits limits (before.parts splits limits are)));
       stores = λ splits limits are. rw (grown, c.push_reserved.ensures.items) (DoesAll-push splits limits front results j r old now c.do_job-result.new.partitions (before.stores splits limits are) (c.do_job-result.ensures.does splits limits (before.parts splits limits are)));
       parts = λ splits limits are. c.do_job-result.ensures.parts splits limits (before.parts splits limits are);

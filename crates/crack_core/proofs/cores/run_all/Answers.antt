@@ -5,7 +5,7 @@ use Rattle.crack_core.specs.declared.step.Step.{Step}
 use Rattle.crack_core.specs.declared.step.Job.TheVariants.{Perform}
 use Rattle.crack_core.specs.declared.step.Done.TheVariants.{Replied}
 use Rattle.crack_core.specs.Routes.{keys_of_part}
-use Rattle.crack_core.specs.Steps.{bounds_of, mapped, IsOutcome, tables_of}
+use Rattle.crack_core.specs.Steps.{bounds_from, mapped, IsOutcome, tables_of}
 use Rattle.crack_core.proofs.JobLaws.{KeepsJobs-push, AreExpectedOutcomes-push, DoesAll-push}
 use Rattle.crack_core.proofs.cores.run_all.Goals as goal
 
@@ -31,7 +31,7 @@ steps-preserved c =
       room = omega (arith, before.room, c.push_reserved.ensures.capacity);
       count = omega (arith, before.count, ap length c.push_reserved.ensures.items, length-append results (r ∷ []));
       replies = λ splits limits are. rw (grown, more) (AreExpectedOutcomes-push limits splits (tables_of old) jobs done (Perform s) (mapped Replied r) (before.replies splits limits are)
-          (r, refl, subst (λ (t : Option PlainView). IsOutcome (bounds_of limits) (keys_of_part splits s.part) t s.command r) (before.kept splits limits are s.part) (c.ask_at-result.ensures.outcome splits limits (before.parts splits limits are))));
+          (r, refl, subst (λ (t : Option PlainView). IsOutcome (bounds_from limits) (keys_of_part splits s.part) t s.command r) (before.kept splits limits are s.part) (c.ask_at-result.ensures.outcome splits limits (before.parts splits limits are))));
       kept = λ splits limits are. rw (grown, more) (KeepsJobs-push limits (tables_of old) (tables_of now) (tables_of after) jobs done (Perform s) (mapped Replied r) long (before.kept splits limits are) (c.ask_at-result.ensures.kept splits limits (before.parts splits limits are)));
       stores = λ splits limits are. rw (grown, more) (DoesAll-push splits limits jobs done (Perform s) (mapped Replied r) old now after (before.stores splits limits are) (
         r,

@@ -1,16 +1,16 @@
 use Rattle.std.proofs.Common.{◌≡◌, ◌∷◌, ◌++◌, sym, ap, ◌∙◌}
 use Rattle.crack_index.specs.Places.{Places}
-use Rattle.crack_index.specs.Trees.{Grown, marks_of}
+use Rattle.crack_index.specs.Trees.{Grown, marks_in_tree}
 use Rattle.crack_index.proofs.PlaceLemmas.{Places-node, Rising-places, IsBalanced-places}
 use Rattle.crack_index.proofs.lowering.+place_up.Goals as goal
 use Rattle.crack_index.proofs.lowering.+place_up.Goals.{After-deref_mut-2, After-place_up}
 
 -- the marks of the node are those of the tree
-whole : (g : _) (t : _) (c : After-deref_mut-2 g t) → marks_of c.deref_mut-2.inside.left ++ c.deref_mut-2.inside.mark ∷ marks_of c.deref_mut-2.inside.right ≡ marks_of c.args.link.now
-whole g t c = ap (λ (n : Grown). n.marks) (c.deref_mut-2.view_is ∙ c.deref_mut.ensures.value) ∙ sym (ap marks_of c.in-Some.is)
+whole : (g : _) (t : _) (c : After-deref_mut-2 g t) → marks_in_tree c.deref_mut-2.inside.left ++ c.deref_mut-2.inside.mark ∷ marks_in_tree c.deref_mut-2.inside.right ≡ marks_in_tree c.args.link.now
+whole g t c = ap (λ (n : Grown). n.marks) (c.deref_mut-2.view_is ∙ c.deref_mut.ensures.value) ∙ sym (ap marks_in_tree c.in-Some.is)
 
-placed : (g : _) (t : _) (c : After-place_up g t) → Places g.V.Placer.places c.args.least (marks_of c.deref_mut-2.inside.left ++ c.deref_mut-2.inside.mark ∷ marks_of c.deref_mut-2.inside.right) c.args.visitor.now (marks_of c.place_up-below.new.link ++ c.place_mark-here.new.mark ∷ marks_of c.place_up.new.link) c.place_up.new.visitor c.place_up.result
-placed g t c = Places-node g.V.Placer.places c.args.least c.place_up-below.result c.place_mark-here.result c.place_up.result (marks_of c.deref_mut-2.inside.left) (marks_of c.place_up-below.new.link) c.deref_mut-2.inside.mark c.place_mark-here.new.mark (marks_of c.deref_mut-2.inside.right) (marks_of c.place_up.new.link) c.args.visitor.now c.place_up-below.new.visitor c.place_mark-here.new.visitor c.place_up.new.visitor c.place_up-below.ensures.places c.place_mark-here.ensures.places c.place_up.ensures.places
+placed : (g : _) (t : _) (c : After-place_up g t) → Places g.V.Placer.places c.args.least (marks_in_tree c.deref_mut-2.inside.left ++ c.deref_mut-2.inside.mark ∷ marks_in_tree c.deref_mut-2.inside.right) c.args.visitor.now (marks_in_tree c.place_up-below.new.link ++ c.place_mark-here.new.mark ∷ marks_in_tree c.place_up.new.link) c.place_up.new.visitor c.place_up.result
+placed g t c = Places-node g.V.Placer.places c.args.least c.place_up-below.result c.place_mark-here.result c.place_up.result (marks_in_tree c.deref_mut-2.inside.left) (marks_in_tree c.place_up-below.new.link) c.deref_mut-2.inside.mark c.place_mark-here.new.mark (marks_in_tree c.deref_mut-2.inside.right) (marks_in_tree c.place_up.new.link) c.args.visitor.now c.place_up-below.new.visitor c.place_mark-here.new.visitor c.place_up.new.visitor c.place_up-below.ensures.places c.place_mark-here.ensures.places c.place_up.ensures.places
 
 pub returns-in_default-clause-places : goal.returns-in_default-clause-places
 returns-in_default-clause-places g t c = rw c.in_default.is (Places.done c.args.least c.args.visitor.now)
@@ -27,4 +27,4 @@ returns-clause-places g t c =
 pub returns-clause-rising : goal.returns-clause-rising
 returns-clause-rising g t c = λ rising.
     let now = (goal.at.returns-clause-rising g t c).After-place_up in
-    Rising-places g.V.Placer.places c.args.least c.place_up.result (marks_of c.deref_mut-2.inside.left ++ c.deref_mut-2.inside.mark ∷ marks_of c.deref_mut-2.inside.right) (marks_of c.place_up-below.new.link ++ c.place_mark-here.new.mark ∷ marks_of c.place_up.new.link) c.args.visitor.now c.place_up.new.visitor (placed g t now) c.deref_mut-2.invariant.rising
+    Rising-places g.V.Placer.places c.args.least c.place_up.result (marks_in_tree c.deref_mut-2.inside.left ++ c.deref_mut-2.inside.mark ∷ marks_in_tree c.deref_mut-2.inside.right) (marks_in_tree c.place_up-below.new.link ++ c.place_mark-here.new.mark ∷ marks_in_tree c.place_up.new.link) c.args.visitor.now c.place_up.new.visitor (placed g t now) c.deref_mut-2.invariant.rising

@@ -1,6 +1,6 @@
 use Rattle.std.proofs.Common.{length}
-use Rattle.crack_index.specs.SumTrees.{entries_of}
+use Rattle.crack_index.specs.SumTrees.{entries_in_tree}
 use Rattle.crack_index.proofs.sum_tree.+insert.Given as goal
 
 abbrev pub decreases-insert : goal.decreases-insert
-decreases-insert l = length (entries_of l.link)
+decreases-insert l = length (entries_in_tree l.link)

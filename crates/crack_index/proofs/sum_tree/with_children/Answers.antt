@@ -1,7 +1,7 @@
 use Rattle.std.proofs.Common.{◌+◌, arith, rules}
 use Rattle.std.specs.Int.{w128}
 use Rattle.std.proofs.lemmas.Int.{to_z-of_z}
-use Rattle.crack_index.specs.SumTrees.{entries_of}
+use Rattle.crack_index.specs.SumTrees.{entries_in_tree}
 use Rattle.crack_index.specs.SumKeeps.{levels_of}
 use Rattle.crack_index.proofs.SumSides.{tall-over}
 use Rattle.crack_index.proofs.sum_tree.with_children.Goals as goal
@@ -13,6 +13,6 @@ invariant_of-t-17 c =
     record {
       high = omega (arith, c.max-height.ensures, c.height.ensures.value, c.height-2.ensures.value);
       even = c.requires.even;
-      tall = tall-over (entries_of c.args.left) c.args.entry (entries_of c.args.right) (levels_of c.args.left) (levels_of c.args.right) (c.max-height.result + 1) c.height.ensures.tall c.height-2.ensures.tall c.requires.even (omega (arith, c.max-height.ensures, c.height.ensures.value, c.height-2.ensures.value));
+      tall = tall-over (entries_in_tree c.args.left) c.args.entry (entries_in_tree c.args.right) (levels_of c.args.left) (levels_of c.args.right) (c.max-height.result + 1) c.height.ensures.tall c.height-2.ensures.tall c.requires.even (omega (arith, c.max-height.ensures, c.height.ensures.value, c.height-2.ensures.value));
       summed = rw total (rw sum at (c.total_over-total.ensures c.args.entry.0));
     }

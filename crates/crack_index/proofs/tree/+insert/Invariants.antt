@@ -1,6 +1,6 @@
 use Rattle.std.proofs.Common.{length}
-use Rattle.crack_index.specs.Trees.{marks_of}
+use Rattle.crack_index.specs.Trees.{marks_in_tree}
 use Rattle.crack_index.proofs.tree.+insert.Given as goal
 
 abbrev pub decreases-insert : goal.decreases-insert
-decreases-insert l = length (marks_of l.link)
+decreases-insert l = length (marks_in_tree l.link)

@@ -1,7 +1,7 @@
 use Rattle.std.proofs.Common.{ℕ, ◌≡◌, List, length, arith, length-append, ◌≤◌, ◌∷◌, reverse, rules, refl, sym, ap, ◌∙◌}
 use Rattle.std.specs.Prelude.{All}
 use Rattle.crack_index.specs.declared.mark.Mark.{Mark}
-use Rattle.crack_index.specs.Trees.{Grown, marks_of}
+use Rattle.crack_index.specs.Trees.{Grown, marks_in_tree}
 use Rattle.crack_index.specs.Steps.{StepsDown}
 use Rattle.crack_index.proofs.WalkLemmas.{Walked, Walked-some, Walked-none, Neared, Neared-stepped, none-is, All-left, All-here, All-right, All-some, down-near, down-middle, down-whole, IsBalanced-down, down-balanced}
 use Rattle.crack_index.proofs.walk.+lower_all.Goals as goal
@@ -28,9 +28,9 @@ returns-then-lower_all-clause-goes g t c = λ number all.
 
 pub lower_all-requires : goal.lower_all-requires
 lower_all-requires g t c κs within =
-    let here : marks_of c.node.inside.right ≡ c.deref_mut.result.now.marks = ap marks_of c.in-Some.is ∙ ap (λ (n : Grown). n.marks) (sym c.deref_mut.ensures.value) in
+    let here : marks_in_tree c.node.inside.right ≡ c.deref_mut.result.now.marks = ap marks_in_tree c.in-Some.is ∙ ap (λ (n : Grown). n.marks) (sym c.deref_mut.ensures.value) in
     let long = ap (λ (xs : List Mark). length xs) (ap (λ (n : Grown). n.marks) c.node.view_is) in
-    let parts = length-append (marks_of c.node.inside.left) (c.node.inside.mark ∷ (marks_of c.node.inside.right)) in
+    let parts = length-append (marks_in_tree c.node.inside.left) (c.node.inside.mark ∷ (marks_in_tree c.node.inside.right)) in
     (omega (arith, c.decreases, long, parts, ap (λ (xs : List Mark). length xs) here), (search rules, (c.requires.going, ((c.requires.below.0, (All-some (λ m. m.bound.0 ≤ c.requires.below.0) c.node.inside.right c.in-Some.right c.deref_mut.result.now c.in-Some.is c.deref_mut.ensures.value (All-right (λ m. m.bound.0 ≤ c.requires.below.0) c.node.inside.left c.node.inside.mark c.node.inside.right c.args.node.now.marks (ap (λ (n : Grown). n.marks) c.node.view_is) c.requires.below.1))), c.requires.ready))))
 
 pub invariant_of-node-then-step_down : goal.invariant_of-node-then-step_down
@@ -46,9 +46,9 @@ returns-then-step_down-clause-goes g t c = λ number all.
 
 pub lower_all-requires-in-Some-left : goal.lower_all-requires-in-Some-left
 lower_all-requires-in-Some-left g t c κs within =
-    let here : marks_of c.node.inside.left ≡ c.deref_mut-in-Some-left.result.now.marks = ap marks_of c.in-Some-left.is ∙ ap (λ (n : Grown). n.marks) (sym c.deref_mut-in-Some-left.ensures.value) in
+    let here : marks_in_tree c.node.inside.left ≡ c.deref_mut-in-Some-left.result.now.marks = ap marks_in_tree c.in-Some-left.is ∙ ap (λ (n : Grown). n.marks) (sym c.deref_mut-in-Some-left.ensures.value) in
     let long = ap (λ (xs : List Mark). length xs) (ap (λ (n : Grown). n.marks) c.node.view_is) in
-    let parts = length-append (marks_of c.node.inside.left) (c.node.inside.mark ∷ (marks_of c.node.inside.right)) in
+    let parts = length-append (marks_in_tree c.node.inside.left) (c.node.inside.mark ∷ (marks_in_tree c.node.inside.right)) in
     (omega (arith, c.decreases, long, parts, ap (λ (xs : List Mark). length xs) here), (search rules, (none-is c.step_down.new.way.ended (sym c.step_down.ensures.ended ∙ c.if-step_down.false), ((c.requires.below.0, (All-some (λ m. m.bound.0 ≤ c.requires.below.0) c.node.inside.left c.in-Some-left.left c.deref_mut-in-Some-left.result.now c.in-Some-left.is c.deref_mut-in-Some-left.ensures.value (All-left (λ m. m.bound.0 ≤ c.requires.below.0) c.node.inside.left c.node.inside.mark c.node.inside.right c.args.node.now.marks (ap (λ (n : Grown). n.marks) c.node.view_is) c.requires.below.1))), c.step_down.ensures.ready))))
 
 pub invariant_of-node-2 : goal.invariant_of-node-2

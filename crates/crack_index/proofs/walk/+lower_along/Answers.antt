@@ -1,6 +1,6 @@
 use Rattle.std.proofs.Common.{◌≡◌, List, length, arith, length-append, ◌≤◌, ◌∷◌, reverse, rules, refl, sym, ap, ◌∙◌}
 use Rattle.crack_index.specs.declared.mark.Mark.{Mark}
-use Rattle.crack_index.specs.Trees.{Grown, marks_of}
+use Rattle.crack_index.specs.Trees.{Grown, marks_in_tree}
 use Rattle.crack_index.specs.Steps.{StepsDown}
 use Rattle.crack_index.proofs.WalkLemmas.{Walked, Walked-some, Walked-none, Neared, Neared-stepped, All-some, down-near, down-middle, down-apart, down-whole, IsBalanced-down, down-balanced, below-left}
 use Rattle.crack_index.proofs.walk.+lower_along.Goals as goal
@@ -10,9 +10,9 @@ use Rattle.crack_index.proofs.walk.+lower_along.Goals.{in-Some, in-None, in-Some
 
 pub lower_along-requires : goal.lower_along-requires
 lower_along-requires g t c κs within =
-    let here : marks_of c.node.inside.left ≡ c.deref_mut.result.now.marks = ap marks_of c.in-Some.is ∙ ap (λ (n : Grown). n.marks) (sym c.deref_mut.ensures.value) in
+    let here : marks_in_tree c.node.inside.left ≡ c.deref_mut.result.now.marks = ap marks_in_tree c.in-Some.is ∙ ap (λ (n : Grown). n.marks) (sym c.deref_mut.ensures.value) in
     let long = ap (λ (xs : List Mark). length xs) (ap (λ (n : Grown). n.marks) c.node.view_is) in
-    let parts = length-append (marks_of c.node.inside.left) (c.node.inside.mark ∷ (marks_of c.node.inside.right)) in
+    let parts = length-append (marks_in_tree c.node.inside.left) (c.node.inside.mark ∷ (marks_in_tree c.node.inside.right)) in
     (omega (arith, c.decreases, long, parts, ap (λ (xs : List Mark). length xs) here), (search rules, (c.requires.going, c.requires.ready)))
 
 pub invariant_of-node : goal.invariant_of-node
@@ -39,9 +39,9 @@ returns-then-number-clause-goes g t c =
 
 pub lower_along-requires-in-Some-right : goal.lower_along-requires-in-Some-right
 lower_along-requires-in-Some-right g t c κs within =
-    let here : marks_of c.node.inside.right ≡ c.deref_mut-in-Some-right.result.now.marks = ap marks_of c.in-Some-right.is ∙ ap (λ (n : Grown). n.marks) (sym c.deref_mut-in-Some-right.ensures.value) in
+    let here : marks_in_tree c.node.inside.right ≡ c.deref_mut-in-Some-right.result.now.marks = ap marks_in_tree c.in-Some-right.is ∙ ap (λ (n : Grown). n.marks) (sym c.deref_mut-in-Some-right.ensures.value) in
     let long = ap (λ (xs : List Mark). length xs) (ap (λ (n : Grown). n.marks) c.node.view_is) in
-    let parts = length-append (marks_of c.node.inside.left) (c.node.inside.mark ∷ (marks_of c.node.inside.right)) in
+    let parts = length-append (marks_in_tree c.node.inside.left) (c.node.inside.mark ∷ (marks_in_tree c.node.inside.right)) in
     (omega (arith, c.decreases, long, parts, ap (λ (xs : List Mark). length xs) here), (search rules, (c.requires.going, c.requires.ready)))
 
 pub invariant_of-node-then-lower_along : goal.invariant_of-node-then-lower_along
@@ -77,14 +77,14 @@ returns-then-step_down-clause-goes g t c =
 -- the bounds on the farther side are all on the number's side as well
 
 pub lower_all-requires-clause-below : goal.lower_all-requires-clause-below
-lower_all-requires-clause-below g t c = (c.args.number, All-some (λ m. m.bound.0 ≤ c.args.number) c.node.inside.left c.in-Some-left.left c.deref_mut-in-Some-left.result.now c.in-Some-left.is c.deref_mut-in-Some-left.ensures.value (below-left c.args.number (marks_of c.node.inside.left) c.node.inside.mark (marks_of c.node.inside.right) c.node.invariant.rising (rw c.number.ensures at c.if-number.false)))
+lower_all-requires-clause-below g t c = (c.args.number, All-some (λ m. m.bound.0 ≤ c.args.number) c.node.inside.left c.in-Some-left.left c.deref_mut-in-Some-left.result.now c.in-Some-left.is c.deref_mut-in-Some-left.ensures.value (below-left c.args.number (marks_in_tree c.node.inside.left) c.node.inside.mark (marks_in_tree c.node.inside.right) c.node.invariant.rising (rw c.number.ensures at c.if-number.false)))
 
 pub invariant_of-node-2 : goal.invariant_of-node-2
 invariant_of-node-2 g t c =
     let near : Neared (StepsDown g.V.Visitor.visits c.args.number) reverse c.node.inside.right c.match-right.node-inside.1.1.1.1.0 c.node.inside.mark c.step_down.new.mark c.args.way.now c.step_down.new.way c.args.visitor.now c.step_down.new.visitor = Neared-stepped (StepsDown g.V.Visitor.visits c.args.number) reverse c.node.inside.right c.match-right.node-inside.1.1.1.1.0 c.node.inside.mark c.step_down.new.mark c.args.way.now c.match-right.way' c.step_down.new.way c.args.visitor.now c.match-right.visitor c.step_down.new.visitor (nearer g t (goal.at.invariant_of-node-2 g t c).Joined-right) (c.step_down.ensures.steps c.args.number (rw c.number.ensures at c.if-number.false)) (sym c.step_down.ensures.ended ∙ c.if-step_down.false) in
     elim c.match-left-2.branch [
       | in-Some-left w ↦ rw w.node-inside-is (down-balanced g.V.Visitor.visits c.args.number c.node.inside.left _ c.node.inside.mark c.step_down.new.mark c.node.inside.right c.match-right.node-inside.1.1.1.1.0 c.node.inside.height c.args.way.now c.step_down.new.way _ c.args.visitor.now c.step_down.new.visitor _ near
-          (Walked-some (StepsDown g.V.Visitor.visits c.args.number) reverse c.node.inside.left w.in-Some-left.left w.deref_mut-in-Some-left.result.now w.lower_all.new.node c.step_down.new.way w.lower_all.new.way c.step_down.new.visitor w.lower_all.new.visitor w.in-Some-left.is w.deref_mut-in-Some-left.ensures.value (w.lower_all.ensures.goes c.args.number (All-some (λ m. m.bound.0 ≤ c.args.number) c.node.inside.left w.in-Some-left.left w.deref_mut-in-Some-left.result.now w.in-Some-left.is w.deref_mut-in-Some-left.ensures.value (below-left c.args.number (marks_of c.node.inside.left) c.node.inside.mark (marks_of c.node.inside.right) c.node.invariant.rising (rw c.number.ensures at c.if-number.false)))) w.lower_all.ensures.height) c.node.invariant)
+          (Walked-some (StepsDown g.V.Visitor.visits c.args.number) reverse c.node.inside.left w.in-Some-left.left w.deref_mut-in-Some-left.result.now w.lower_all.new.node c.step_down.new.way w.lower_all.new.way c.step_down.new.visitor w.lower_all.new.visitor w.in-Some-left.is w.deref_mut-in-Some-left.ensures.value (w.lower_all.ensures.goes c.args.number (All-some (λ m. m.bound.0 ≤ c.args.number) c.node.inside.left w.in-Some-left.left w.deref_mut-in-Some-left.result.now w.in-Some-left.is w.deref_mut-in-Some-left.ensures.value (below-left c.args.number (marks_in_tree c.node.inside.left) c.node.inside.mark (marks_in_tree c.node.inside.right) c.node.invariant.rising (rw c.number.ensures at c.if-number.false)))) w.lower_all.ensures.height) c.node.invariant)
       | in-None-left w ↦ rw w.node-inside-is (down-balanced g.V.Visitor.visits c.args.number c.node.inside.left c.node.inside.left c.node.inside.mark c.step_down.new.mark c.node.inside.right c.match-right.node-inside.1.1.1.1.0 c.node.inside.height c.args.way.now c.step_down.new.way _ c.args.visitor.now c.step_down.new.visitor _ near
           (Walked-none (StepsDown g.V.Visitor.visits c.args.number) reverse c.node.inside.left c.step_down.new.way c.step_down.new.visitor w.in-None-left.is refl) c.node.invariant)
     ]
@@ -94,7 +94,7 @@ returns-clause-goes g t c =
     let near : Neared (StepsDown g.V.Visitor.visits c.args.number) reverse c.node.inside.right c.match-right.node-inside.1.1.1.1.0 c.node.inside.mark c.step_down.new.mark c.args.way.now c.step_down.new.way c.args.visitor.now c.step_down.new.visitor = Neared-stepped (StepsDown g.V.Visitor.visits c.args.number) reverse c.node.inside.right c.match-right.node-inside.1.1.1.1.0 c.node.inside.mark c.step_down.new.mark c.args.way.now c.match-right.way' c.step_down.new.way c.args.visitor.now c.match-right.visitor c.step_down.new.visitor (nearer g t (goal.at.returns-clause-goes g t c).Joined-right) (c.step_down.ensures.steps c.args.number (rw c.number.ensures at c.if-number.false)) (sym c.step_down.ensures.ended ∙ c.if-step_down.false) in
     elim c.match-left-2.branch [
       | in-Some-left w ↦ rw (w.node-inside-is, w.way'-is, w.visitor-is, ← ap (λ (n : Grown). n.marks) c.node.view_is) (down-whole g.V.Visitor.visits c.args.number c.node.inside.left _ c.node.inside.mark c.step_down.new.mark c.node.inside.right c.match-right.node-inside.1.1.1.1.0 c.args.way.now c.step_down.new.way _ c.args.visitor.now c.step_down.new.visitor _ near
-          (Walked-some (StepsDown g.V.Visitor.visits c.args.number) reverse c.node.inside.left w.in-Some-left.left w.deref_mut-in-Some-left.result.now w.lower_all.new.node c.step_down.new.way w.lower_all.new.way c.step_down.new.visitor w.lower_all.new.visitor w.in-Some-left.is w.deref_mut-in-Some-left.ensures.value (w.lower_all.ensures.goes c.args.number (All-some (λ m. m.bound.0 ≤ c.args.number) c.node.inside.left w.in-Some-left.left w.deref_mut-in-Some-left.result.now w.in-Some-left.is w.deref_mut-in-Some-left.ensures.value (below-left c.args.number (marks_of c.node.inside.left) c.node.inside.mark (marks_of c.node.inside.right) c.node.invariant.rising (rw c.number.ensures at c.if-number.false)))) w.lower_all.ensures.height))
+          (Walked-some (StepsDown g.V.Visitor.visits c.args.number) reverse c.node.inside.left w.in-Some-left.left w.deref_mut-in-Some-left.result.now w.lower_all.new.node c.step_down.new.way w.lower_all.new.way c.step_down.new.visitor w.lower_all.new.visitor w.in-Some-left.is w.deref_mut-in-Some-left.ensures.value (w.lower_all.ensures.goes c.args.number (All-some (λ m. m.bound.0 ≤ c.args.number) c.node.inside.left w.in-Some-left.left w.deref_mut-in-Some-left.result.now w.in-Some-left.is w.deref_mut-in-Some-left.ensures.value (below-left c.args.number (marks_in_tree c.node.inside.left) c.node.inside.mark (marks_in_tree c.node.inside.right) c.node.invariant.rising (rw c.number.ensures at c.if-number.false)))) w.lower_all.ensures.height))
       | in-None-left w ↦ rw (w.node-inside-is, w.way'-is, w.visitor-is, ← ap (λ (n : Grown). n.marks) c.node.view_is) (down-whole g.V.Visitor.visits c.args.number c.node.inside.left c.node.inside.left c.node.inside.mark c.step_down.new.mark c.node.inside.right c.match-right.node-inside.1.1.1.1.0 c.args.way.now c.step_down.new.way c.step_down.new.way c.args.visitor.now c.step_down.new.visitor c.step_down.new.visitor near
           (Walked-none (StepsDown g.V.Visitor.visits c.args.number) reverse c.node.inside.left c.step_down.new.way c.step_down.new.visitor w.in-None-left.is refl))
     ]

@@ -1,7 +1,7 @@
 use Rattle.std.proofs.Common.{ℕ, ◌≡◌, List, length, arith, length-append, ◌<◌, ◌-◌, ◌^◌, ◌∷◌, rules, refl, sym, ap, ◌∙◌}
 use Rattle.std.specs.Prelude.{All}
 use Rattle.crack_index.specs.declared.mark.Mark.{Mark}
-use Rattle.crack_index.specs.Trees.{Grown, marks_of}
+use Rattle.crack_index.specs.Trees.{Grown, marks_in_tree}
 use Rattle.crack_index.specs.Steps.{StepsUp}
 use Rattle.crack_index.proofs.WalkLemmas.{Walked, Walked-some, Walked-none, Neared, Neared-stepped, none-is, All-left, All-here, All-right, All-some, up-near, up-middle, up-whole, IsBalanced-up, up-balanced, ahead}
 use Rattle.crack_index.proofs.walk.+raise_all.Goals as goal
@@ -42,9 +42,9 @@ returns-then-step_up-clause-goes g t c = λ number all.
 
 pub raise_all-requires-in-Some-right : goal.raise_all-requires-in-Some-right
 raise_all-requires-in-Some-right g t c κs within =
-    let here : marks_of c.node.inside.right ≡ c.deref_mut-in-Some-right.result.now.marks = ap marks_of c.in-Some-right.is ∙ ap (λ (n : Grown). n.marks) (sym c.deref_mut-in-Some-right.ensures.value) in
+    let here : marks_in_tree c.node.inside.right ≡ c.deref_mut-in-Some-right.result.now.marks = ap marks_in_tree c.in-Some-right.is ∙ ap (λ (n : Grown). n.marks) (sym c.deref_mut-in-Some-right.ensures.value) in
     let long = ap (λ (xs : List Mark). length xs) (ap (λ (n : Grown). n.marks) c.node.view_is) in
-    let parts = length-append (marks_of c.node.inside.left) (c.node.inside.mark ∷ (marks_of c.node.inside.right)) in
+    let parts = length-append (marks_in_tree c.node.inside.left) (c.node.inside.mark ∷ (marks_in_tree c.node.inside.right)) in
     (omega (arith, c.decreases, long, parts, ap (λ (xs : List Mark). length xs) here), (search rules, (none-is c.step_up.new.way.ended (sym c.step_up.ensures.ended ∙ c.if-step_up.false), ((c.requires.above.0, (All-some (λ m. c.requires.above.0 < m.bound.0) c.node.inside.right c.in-Some-right.right c.deref_mut-in-Some-right.result.now c.in-Some-right.is c.deref_mut-in-Some-right.ensures.value (All-right (λ m. c.requires.above.0 < m.bound.0) c.node.inside.left c.node.inside.mark c.node.inside.right c.args.node.now.marks (ap (λ (n : Grown). n.marks) c.node.view_is) c.requires.above.1))), ((All-some (λ m. m.position < 2 ^ 64 - 1) c.node.inside.right c.in-Some-right.right c.deref_mut-in-Some-right.result.now c.in-Some-right.is c.deref_mut-in-Some-right.ensures.value (All-right (λ m. m.position < 2 ^ 64 - 1) c.node.inside.left c.node.inside.mark c.node.inside.right c.args.node.now.marks (ap (λ (n : Grown). n.marks) c.node.view_is) c.requires.small)), c.step_up.ensures.ready)))))
 
 pub invariant_of-node-2 : goal.invariant_of-node-2

@@ -1,5 +1,5 @@
 use Rattle.std.proofs.Common.{Some, None}
-use Rattle.crack_merge.specs.Loops.{ended}
+use Rattle.crack_merge.specs.Loops.{ended_carry}
 use Rattle.crack_state.specs.Steps.{ceiling_of, SameButRoom}
 use Rattle.crack_merge.specs.Merges.{begins, carries}
 use Rattle.crack_merge.proofs.AtOnce.{SameButRoom-trans}
@@ -45,7 +45,7 @@ pub returns-in-Err-make_room-clause-stops : goal.returns-in-Err-make_room-clause
 returns-in-Err-make_room-clause-stops c =
     rw c.end-in-Err-make_room.ensures (record {
       from = c.insertions.from;
-      last = ended c.carry-rule.result c.carry-rule.new.carrying;
+      last = ended_carry c.carry-rule.result c.carry-rule.new.carrying;
       carries = (arrives (goal.at.returns-in-Err-make_room-clause-stops c).After-facts).carries_in;
       next = c.in-Some-seek_in.place;
       left = (arrives (goal.at.returns-in-Err-make_room-clause-stops c).After-facts).finds (Some c.in-Some-seek_in.place) c.in-Some-seek_in.ensures.finds;

@@ -2,7 +2,7 @@ use Rattle.std.proofs.Common.{◌<◌, ◌≤◌, length, refl, ap, ◌∙◌, a
 use Rattle.std.proofs.lemmas.List.{drop_all}
 use Rattle.crack_row.specs.declared.command.Policy.TheVariants.{Complete}
 use Rattle.crack_state.specs.Steps.{SameButRoom}
-use Rattle.crack_merge.specs.Loops.{ended}
+use Rattle.crack_merge.specs.Loops.{ended_carry}
 use Rattle.crack_merge.proofs.AtOnce.{SameButRoom-trans}
 use Rattle.crack_merge.proofs.CarryLaws.{Stops-Advances}
 use Rattle.crack_merge.proofs.Ending.{EndsAlike, EndsAlike-room, IsIntact-ended, HasRoom-ended}
@@ -49,7 +49,7 @@ stopped c =
     let here = c.carry-rule.new.carrying in
     let made = c.make_room-in-insertions in
     let same = (EndsAlike-room rule here made.new.self made.ensures.same made.ensures.hand).same in
-    rw c.end-stopped.ensures (PutsFirst-room c.args.store (ended rule here) (ended rule made.new.self) c.insertions.taken (c.insertions.invariant.puts (ended rule here) c.carry-rule.ensures.carries) same)
+    rw c.end-stopped.ensures (PutsFirst-room c.args.store (ended_carry rule here) (ended_carry rule made.new.self) c.insertions.taken (c.insertions.invariant.puts (ended_carry rule here) c.carry-rule.ensures.carries) same)
 
 pub returns-in-Err-make_room-clause-stops : goal.returns-in-Err-make_room-clause-stops
 returns-in-Err-make_room-clause-stops c =
@@ -67,16 +67,16 @@ insertions-preserved c =
     let rule = c.carry-rule.result in
     let here = c.carry-rule.new.carrying in
     let made = c.make_room-in-insertions.new.self in
-    let was = c.insertions.invariant.puts (ended rule here) c.carry-rule.ensures.carries in
+    let was = c.insertions.invariant.puts (ended_carry rule here) c.carry-rule.ensures.carries in
     let less : c.insertions.taken < length c.args.store.pending_in = omega (arith, c.insertions-test.true, c.pending_in-count.ensures) in
-    rw c.end_and_lift.ensures (IsNext-next c.args.store (ended rule here) (ended rule made) c.insertions.taken was (alike (goal.at.insertions-preserved c).After-make_room-in-insertions).same less (IsIntact-ended rule here c.carry-rule.ensures.ends c.facts-in-insertions.ensures) (HasRoom-ended rule made c.in_default-make_room.ensures.column c.in_default-make_room.ensures.pending_in))
+    rw c.end_and_lift.ensures (IsNext-next c.args.store (ended_carry rule here) (ended_carry rule made) c.insertions.taken was (alike (goal.at.insertions-preserved c).After-make_room-in-insertions).same less (IsIntact-ended rule here c.carry-rule.ensures.ends c.facts-in-insertions.ensures) (HasRoom-ended rule made c.in_default-make_room.ensures.column c.in_default-make_room.ensures.pending_in))
 
 pub returns-clause-all : goal.returns-clause-all
 returns-clause-all c =
-    let was = c.insertions.invariant.puts (ended c.carry-rule-2.result c.carry-rule-2.new.carrying) c.carry-rule-2.ensures.carries in
+    let was = c.insertions.invariant.puts (ended_carry c.carry-rule-2.result c.carry-rule-2.new.carrying) c.carry-rule-2.ensures.carries in
     rw c.end.ensures (was.pending_in ∙ drop_all c.insertions.taken c.args.store.pending_in (omega (arith, c.insertions-test.false, c.pending_in-count.ensures)))
 
 pub returns-clause-ok : goal.returns-clause-ok
 returns-clause-ok c =
-    let was = c.insertions.invariant.puts (ended c.carry-rule-2.result c.carry-rule-2.new.carrying) c.carry-rule-2.ensures.carries in
+    let was = c.insertions.invariant.puts (ended_carry c.carry-rule-2.result c.carry-rule-2.new.carrying) c.carry-rule-2.ensures.carries in
     rw c.end.ensures was.puts

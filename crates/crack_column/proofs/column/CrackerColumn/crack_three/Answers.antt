@@ -4,7 +4,7 @@ use Rattle.crack_column.specs.Column.{Cracks}
 use Rattle.crack_column.proofs.Cracking.{Cracks-remembers, length-Cracks}
 use Rattle.crack_column.specs.Places.{handles_in, remembered_in}
 use Rattle.crack_column.specs.Keeps.{unread_in}
-use Rattle.crack_column.specs.Inside.{Turns}
+use Rattle.crack_column.specs.Inside.{TurnsTags}
 use Rattle.crack_column.proofs.PlaceLaws.{length-in, Knows-Remembers, Cracks-Turns, length-Turns, aside-Turns, unread-Turns, unread-between}
 use Rattle.crack_column.proofs.column.CrackerColumn.crack_three.Goals as goal
 use Rattle.crack_column.proofs.column.CrackerColumn.crack_three.Goals.{After-self, After-crack_between_three-learned}
@@ -17,10 +17,10 @@ end_len c =
 remembers : (c : After-self) → Remembers c.args.arena.now.cells (handles_in c.self.inside.tags.items c.self.inside.len) (remembered_in c.self.inside.tags.items c.self.inside.len)
 remembers c = rw (← c.self.view_is) at c.requires.remembered
 
-turned : (c : After-crack_between_three-learned) → Turns c.args.arena.now.cells c.args.low.0 c.args.from c.args.to c.self.inside.tags.items c.crack_between_three-learned.new.self.items c.crack_between_three-learned.result.0.0 c.crack_between_three-learned.result.1
+turned : (c : After-crack_between_three-learned) → TurnsTags c.args.arena.now.cells c.args.low.0 c.args.from c.args.to c.self.inside.tags.items c.crack_between_three-learned.new.self.items c.crack_between_three-learned.result.0.0 c.crack_between_three-learned.result.1
 turned c = c.crack_between_three-learned.ensures.low
 
-turned_high : (c : After-crack_between_three-learned) → Turns c.args.arena.now.cells c.args.high.0 c.args.from c.args.to c.self.inside.tags.items c.crack_between_three-learned.new.self.items c.crack_between_three-learned.result.0.1 c.crack_between_three-learned.result.1
+turned_high : (c : After-crack_between_three-learned) → TurnsTags c.args.arena.now.cells c.args.high.0 c.args.from c.args.to c.self.inside.tags.items c.crack_between_three-learned.new.self.items c.crack_between_three-learned.result.0.1 c.crack_between_three-learned.result.1
 turned_high c = c.crack_between_three-learned.ensures.high
 
 cracked : (c : After-crack_between_three-learned) → Cracks c.args.arena.now.cells c.args.low.0 c.args.from c.args.to (handles_in c.self.inside.tags.items c.self.inside.len) (remembered_in c.self.inside.tags.items c.self.inside.len) (handles_in c.crack_between_three-learned.new.self.items c.self.inside.len) (remembered_in c.crack_between_three-learned.new.self.items c.self.inside.len) c.crack_between_three-learned.result.0.0

@@ -4,7 +4,7 @@ use Rattle.crack_column.specs.Column.{Cracks}
 use Rattle.crack_column.proofs.Cracking.{Cracks-remembers, length-Cracks}
 use Rattle.crack_column.specs.Places.{handles_in, remembered_in}
 use Rattle.crack_column.specs.Keeps.{unread_in}
-use Rattle.crack_column.specs.Inside.{Turns}
+use Rattle.crack_column.specs.Inside.{TurnsTags}
 use Rattle.crack_column.proofs.PlaceLaws.{length-in, Knows-Remembers, Cracks-Turns, length-Turns, aside-Turns, unread-Turns, unread-between}
 use Rattle.crack_column.proofs.column.CrackerColumn.crack_two.Goals as goal
 use Rattle.crack_column.proofs.column.CrackerColumn.crack_two.Goals.{After-self, After-crack_between-place}
@@ -17,7 +17,7 @@ end_len c =
 remembers : (c : After-self) → Remembers c.args.arena.now.cells (handles_in c.self.inside.tags.items c.self.inside.len) (remembered_in c.self.inside.tags.items c.self.inside.len)
 remembers c = rw (← c.self.view_is) at c.requires.remembered
 
-turned : (c : After-crack_between-place) → Turns c.args.arena.now.cells c.args.bound.0 c.args.from c.args.to c.self.inside.tags.items c.crack_between-place.new.self.items c.crack_between-place.result.0 c.crack_between-place.result.1
+turned : (c : After-crack_between-place) → TurnsTags c.args.arena.now.cells c.args.bound.0 c.args.from c.args.to c.self.inside.tags.items c.crack_between-place.new.self.items c.crack_between-place.result.0 c.crack_between-place.result.1
 turned c = c.crack_between-place.ensures.turned
 
 cracked : (c : After-crack_between-place) → Cracks c.args.arena.now.cells c.args.bound.0 c.args.from c.args.to (handles_in c.self.inside.tags.items c.self.inside.len) (remembered_in c.self.inside.tags.items c.self.inside.len) (handles_in c.crack_between-place.new.self.items c.self.inside.len) (remembered_in c.crack_between-place.new.self.items c.self.inside.len) c.crack_between-place.result.0

@@ -3,7 +3,7 @@ use Rattle.std.specs.List.{between}
 use Rattle.std.proofs.lemmas.List.{length-map}
 use Rattle.std.proofs.lemmas.List.Edits.{length-between}
 use Rattle.crack_column.specs.Keeps.{remembered_key, unread_in}
-use Rattle.crack_column.specs.Inside.{Knows}
+use Rattle.crack_column.specs.Inside.{KnowsRow}
 use Rattle.crack_column.specs.Labels.{tags_of}
 use Rattle.crack_column.proofs.LabelLaws.{length-tags_of, between-tags_of, Turns-parts}
 use Rattle.crack_column.proofs.tags.Tags.crack_between_three.Goals as goal
@@ -30,7 +30,7 @@ slice_bounds-crack_three-end-2 c =
 
 pub crack_three-middle-requires-clause-known : goal.crack_three-middle-requires-clause-known
 crack_three-middle-requires-clause-known c =
-    let known : All (Knows c.args.arena.now.cells) (between c.args.from c.args.to c.args.self.now.items) = c.requires.known in
+    let known : All (KnowsRow c.args.arena.now.cells) (between c.args.from c.args.to c.args.self.now.items) = c.requires.known in
     rw (c.deref_mut.ensures.value, c.deref_mut-2.ensures.value, between-tags_of c.args.from c.args.to c.self.inside.labels.items c.self.inside.payloads.items) (rw (← c.self.view_is) at known)
 
 pub crack_three-middle-requires-clause-unread : goal.crack_three-middle-requires-clause-unread

@@ -1,7 +1,7 @@
 use Rattle.std.proofs.Common.{◌≤◌, length, All, ◌∙◌, arith}
 use Rattle.std.specs.List.{between}
 use Rattle.crack_column.specs.Keeps.{unread_in}
-use Rattle.crack_column.specs.Inside.{Knows}
+use Rattle.crack_column.specs.Inside.{KnowsRow}
 use Rattle.crack_column.proofs.LabelLaws.{length-tags_of, between-tags_of}
 use Rattle.std.specs.Int.{w128}
 use Rattle.std.proofs.lemmas.Int.{ints, to_z-of_z, fits_signed_from_abs}
@@ -29,7 +29,7 @@ slice_bounds-sum-end-2 c =
 
 pub sum-requires-clause-known : goal.sum-requires-clause-known
 sum-requires-clause-known c =
-    let known : All (Knows c.args.arena.now.cells) (between c.args.from c.args.to c.args.self.now.items) = c.requires.known in
+    let known : All (KnowsRow c.args.arena.now.cells) (between c.args.from c.args.to c.args.self.now.items) = c.requires.known in
     rw (c.deref.ensures.value, c.deref-2.ensures.value, between-tags_of c.args.from c.args.to c.self.inside.labels.items c.self.inside.payloads.items) (rw (← c.self.view_is) at known)
 
 pub sum-requires-clause-unread : goal.sum-requires-clause-unread

@@ -1,7 +1,7 @@
 use Rattle.std.proofs.Common.{◌≡◌, ◌+◌, None, sym, ◌∙◌, arith}
 use Rattle.crack_row.specs.declared.TheConstants.{GREATEST_BOUND}
 use Rattle.crack_index.specs.declared.sums.TheConstants.{UNKNOWN}
-use Rattle.crack_index.specs.Cuts.{piece_at, put}
+use Rattle.crack_index.specs.Cuts.{sum_piece_at, put}
 use Rattle.crack_index.proofs.Pieces.{IsEnd-new, IsEnd-given, piece-is, end-past}
 use Rattle.crack_index.proofs.Cutting.{by_bool, piece-own, end-apart, end-has, Extends-same, Extends-begin, Extends-blind}
 use Rattle.crack_index.proofs.sums.PieceSums.cut_high.Goals as goal
@@ -14,7 +14,7 @@ returns-then-last-eq-GREATEST_KEY-clause-cut g c = λ done.
 pub returns-in_default-clause-more : goal.returns-in_default-clause-more
 returns-in_default-clause-more g c =
     let es = c.args.self.now in
-    let none : piece_at (c.args.last + 1) es ≡ None = sym c.piece_at.ensures.value ∙ c.in_default.is in
+    let none : sum_piece_at (c.args.last + 1) es ≡ None = sym c.piece_at.ensures.value ∙ c.in_default.is in
     by_bool c.put.result _
     (λ done. rw (c.put.ensures.ok done) (Extends-begin (g.S.Source.says c.args.source.now) (c.args.last + 1) es c.piece_at.ensures.rises (omega (arith, c.ranges.last.fits, c.if-last-eq-GREATEST_KEY.false)) none))
     (λ short. rw (c.put.ensures.err short) (Extends-same (g.S.Source.says c.args.source.now) es))

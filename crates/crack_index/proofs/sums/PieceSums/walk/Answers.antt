@@ -3,7 +3,7 @@ use Rattle.std.specs.Int.{w128}
 use Rattle.std.proofs.lemmas.Int.{to_z-of_z}
 use Rattle.crack_index.specs.declared.sums.TheConstants.{UNKNOWN}
 use Rattle.crack_index.specs.Sums.{IsKnown}
-use Rattle.crack_index.specs.Cuts.{Rises, span}
+use Rattle.crack_index.specs.Cuts.{StartsRise, span}
 use Rattle.crack_index.specs.SumKeeps.{IsTotal, inside, unknown_from}
 use Rattle.crack_index.proofs.Walking.{walk-whole, walk-unknown, walk-none, walk-beyond}
 use Rattle.crack_index.proofs.sums.PieceSums.walk.Goals as goal
@@ -12,7 +12,7 @@ use Rattle.crack_index.proofs.sums.PieceSums.walk.Goals.{After-total_between-tot
 is_total : (c : After-total_between-total) → IsTotal (inside (span c.args.first c.args.last) c.args.self.now) c.total_between-total.result
 is_total c = rw c.self.view_is at c.total_between-total.ensures
 
-rises : (c : After-total_between-total) → Rises c.args.self.now
+rises : (c : After-total_between-total) → StartsRise c.args.self.now
 rises c = rw c.self.view_is at c.self.invariant.rises
 
 pub returns-then-total : goal.returns-then-total

@@ -2,13 +2,13 @@ use Rattle.std.proofs.Common.{◌≡◌, ℤ, arith, ap, sym, subst}
 use Rattle.crack_row.specs.declared.command.Command.TheVariants.{Update}
 use Rattle.crack_plain.specs.Plain.{after}
 use Rattle.crack_index.specs.Sums.{Changes}
-use Rattle.crack_part.specs.KnownSums.{Known, Knows, sum_before}
+use Rattle.crack_part.specs.KnownSums.{Known, KnowsSums, sum_before}
 use Rattle.crack_part.proofs.KnownLemmas.{AreRight-same, Knows-left, Knows-unchanged, Changes-without, without, gained, lost, replaced-early, replaced-late}
 use Rattle.crack_part.proofs.known.KnownSums.replace.Goals as goal
 
 pub returns-then-row-self-clause-knows : goal.returns-then-row-self-clause-knows
 returns-then-row-self-clause-knows c = λ plain numbered found now.
-    let knows = subst (λ (k : Known). Knows k plain) (sym c.self.view_is) (rw c.forget_if_late.ensures (Knows-left c.args.next c.args.self.now plain now)) in
+    let knows = subst (λ (k : Known). KnowsSums k plain) (sym c.self.view_is) (rw c.forget_if_late.ensures (Knows-left c.args.next c.args.self.now plain now)) in
     let row = c.args.row in
     let before = c.in-Some.before in
     let m = sum_before c.self.inside.since plain.rows in
@@ -23,7 +23,7 @@ returns-then-row-self-clause-knows c = λ plain numbered found now.
 pub returns-else-row-self-clause-knows : goal.returns-else-row-self-clause-knows
 returns-else-row-self-clause-knows c = λ plain numbered found now.
     let known = c.forget_if_late.new.self in
-    let knows : Knows known plain = rw c.forget_if_late.ensures (Knows-left c.args.next c.args.self.now plain now) in
+    let knows : KnowsSums known plain = rw c.forget_if_late.ensures (Knows-left c.args.next c.args.self.now plain now) in
     let row = c.args.row in
     let since : known.since ≡ c.self.inside.since = ap (λ (k : Known). k.since) (sym c.self.view_is) in
     record {

@@ -1,6 +1,6 @@
 use Rattle.std.proofs.Common.{ap, ◌∙◌, arith, Result, Ok, Err, OnOk}
 use Rattle.crack_serials.specs.Serials.{Serials}
-use Rattle.crack_serials.specs.Views.{entries_of, rooms_of}
+use Rattle.crack_serials.specs.Views.{entries_in_maps, rooms_of}
 use Rattle.crack_serials.proofs.MapLemmas.{entries-kept}
 use Rattle.crack_serials.proofs.ShareLemmas.{HasRoom-all, some_room}
 use Rattle.crack_serials.proofs.serials.Serials.reserve_many.Goals as goal
@@ -19,4 +19,4 @@ pub returns-clause-entries : goal.returns-clause-entries
 returns-clause-entries c = entries-kept c.self.inside.maps.items c.reserve_shares.new.maps.items c.reserve_shares.ensures.lists ∙ ap (λ (s : Serials). s.entries) c.self.view_is ∙ c.have_maps.ensures.entries
 
 pub returns-clause-ok : goal.returns-clause-ok
-returns-clause-ok c = on_ok c.reserve_shares.result c.reserve_shares.ensures.ok (λ shares. HasRoom-all (record { entries = entries_of c.reserve_shares.new.maps.items; room = rooms_of c.reserve_shares.new.maps.items }) c.args.first.0 c.args.count shares)
+returns-clause-ok c = on_ok c.reserve_shares.result c.reserve_shares.ensures.ok (λ shares. HasRoom-all (record { entries = entries_in_maps c.reserve_shares.new.maps.items; room = rooms_of c.reserve_shares.new.maps.items }) c.args.first.0 c.args.count shares)

@@ -1,10 +1,7 @@
-use Rattle.std.proofs.Common.{◌≡◌, [], ◌∷◌, ◌++◌, Result, Ok, Err, OnOk, IsOk, None, refl, sym, ap, ◌∙◌, inr, arith}
-use Rattle.std.specs.Prelude.{nat_eq}
-use Rattle.std.proofs.lemmas.Bool.{true≢false}
-use Rattle.indexmap.proofs.CallerLemmas.{insert_entry-new}
+use Rattle.std.proofs.Common.{◌≡◌, [], None, refl, ap, ◌∙◌, inr, arith}
+use Rattle.crack_serials.specs.Serials.{with_serial, handle_of}
 use Rattle.crack_arena.specs.Arena.{cells_with}
 use Rattle.crack_pending.specs.Pending.{Pending}
-use Rattle.crack_state.specs.State.{handle_of}
 use Rattle.crack_state.specs.Steps.{SameButRoom, admitted, next_handle}
 use Rattle.crack_state.proofs.LayoutLaws.{cells-intact}
 use Rattle.crack_state.proofs.StepLaws.{IsIntact-room}
@@ -14,10 +11,6 @@ use Rattle.crack_store.proofs.AdmitLemmas.{is_covered, all_covered}
 use Rattle.crack_store.proofs.RememberLemmas.{Remembers-admitted, Remembers-off, added}
 use Rattle.crack_store.proofs.store.Store.admit.Goals as goal
 use Rattle.crack_store.proofs.store.Store.admit.Goals.{After-put_reserved-handle}
-
-at_ok : {A E : Type 0} (r : Result A E) (P : Type 0) → IsOk r → OnOk r P → P
-at_ok (Ok x) P ok h = h
-at_ok (Err e) P ok h = absurd (true≢false (sym ok))
 
 pub reserve-requires : goal.reserve-requires
 reserve-requires c = omega (arith, cells-intact (lists_of c.self.inside.inside) [] c.self.invariant.intact, c.self.invariant.intact.few_cells)
@@ -39,14 +32,14 @@ push_remembered-requires-clause-absent c =
     rw (c.in_ok-make_places.ensures.same, c.in_ok-reserve.ensures.same) (added c.args.row (lists_of c.self.inside.inside) c.self.invariant.intact c.put_reserved-handle.result (handle (goal.at.push_remembered-requires-clause-absent c).After-put_reserved-handle)).off_in
 
 -- the store is the admitted one, but for room
-after : (c : goal.After-self-1) → SameButRoom (admitted c.args.row (lists_of c.self.inside.inside)) (lists_of (record c.self.inside.inside { arena = c.put_reserved-handle.new.self; pending_in = c.push_remembered.new.self; in_room = 0; serials = c.insert.new.self }))
+after : (c : goal.After-self-1) → SameButRoom (admitted c.args.row (lists_of c.self.inside.inside)) (lists_of (record c.self.inside.inside { arena = c.put_reserved-handle.new.self; pending_in = c.push_remembered.new.self; in_room = 0; serials = c.insert_reserved.new.self }))
 after c =
     let s = lists_of c.self.inside.inside in
     let serial = c.args.row.serial.0 in
     let next = handle (goal.at.invariant_of-self-2 c).After-put_reserved-handle in
     let fresh : handle_of s.serials serial ≡ None = rw (← c.self.view_is) at c.requires.fresh in
-    let entries = at_ok c.insert.result _ (c.insert.ensures.succeeds (omega (arith, c.growth.ensures, c.in_ok-reserve-3.ensures.ok))) c.insert.ensures.entries in
-    let listed : c.insert.new.self.entries ≡ s.serials ++ (serial, next_handle s) ∷ [] = (rw (c.in_ok-reserve-3.ensures.entries, next) at entries) ∙ insert_entry-new nat_eq c.self.inside.inside.serials serial (next_handle s) fresh in
+    let entries = c.insert_reserved.ensures.entries (rw c.in_ok-reserve-3.ensures.entries fresh) in
+    let listed : c.insert_reserved.new.self.entries ≡ with_serial serial (next_handle s) s.serials = rw (c.in_ok-reserve-3.ensures.entries, next) at entries in
     record {
       same = rw (c.put_reserved-handle.ensures.after, ap (λ a. a.cells) c.in_ok-reserve-2.ensures.same, ap (λ a. a.free) c.in_ok-reserve-2.ensures.same, c.push_remembered.ensures.after, c.in_ok-make_places.ensures.same, c.in_ok-reserve.ensures.same, listed, next) refl;
     }

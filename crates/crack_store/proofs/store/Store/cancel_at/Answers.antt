@@ -1,7 +1,7 @@
 use Rattle.std.proofs.Common.{◌≡◌, ◌+◌, true, [], Some, None, arith, refl, length-set}
 use Rattle.crack_row.specs.declared.Row.{Row}
 use Rattle.crack_arena.specs.Arena.{Cell}
-use Rattle.crack_state.specs.State.{handle_of}
+use Rattle.crack_serials.specs.Serials.{handle_of}
 use Rattle.crack_state.specs.Points.{pending_by, MayFree, struck}
 use Rattle.crack_state.specs.Steps.{SameButRoom}
 use Rattle.crack_state.proofs.PointLaws.{reads_by, IsIntact-struck, live_rows-struck}
@@ -35,8 +35,8 @@ invariant_of-self c =
     let s = lists_of c.self.inside.inside in
     let lead = c.args.lead in
     let h = lead.handle in
-    let entries = c.forget_at.new.serials.entries in
-    let new = record c.self.inside.inside { arena = c.free.new.arena; pending_in = c.strike.new.self; serials = c.forget_at.new.serials } in
+    let entries = c.forget_at.new.self.entries in
+    let new = record c.self.inside.inside { arena = c.free.new.arena; pending_in = c.strike.new.self; serials = c.forget_at.new.self } in
     let found : handle_of s.serials lead.serial.0 ≡ Some h = rw (← c.self.view_is) at c.requires.found in
     let waits : pending_by s lead.serial.0 ≡ Some true = rw (← c.self.view_is) at c.requires.pending in
     let few : MayFree s = rw (← c.self.view_is) at c.requires.few in
@@ -45,7 +45,7 @@ invariant_of-self c =
     let freed : Cell Row = record { generation = h.generation + 1; value = None } in
     let agree = AgreeOff-set s.cells h.slot freed in
     record {
-      intact = IsIntact-room (record (struck h s) { serials = entries }) (lists_of new) [] after (IsIntact-struck s lead.serial.0 h entries found pending.listed c.forget_at.ensures few c.self.invariant.intact);
+      intact = IsIntact-room (record (struck h s) { serials = entries }) (lists_of new) [] after (IsIntact-struck s lead.serial.0 h entries found pending.listed c.forget_at.ensures.updates few c.self.invariant.intact);
       remembers = rw c.free.ensures.after (Remembers-off h.slot s.cells (struck h s).cells s.column c.self.inside.inside.column.remembered agree pending.off_column c.self.invariant.remembers);
       keys_in = rw c.free.ensures.after (Remembers-off h.slot s.cells (struck h s).cells c.strike.new.self.handles c.strike.new.self.remembered agree (rw c.strike.ensures.handles pending.left) (c.strike.ensures.remembered s.cells c.self.invariant.keys_in));
       keys_out = rw c.free.ensures.after (Remembers-off h.slot s.cells (struck h s).cells s.pending_out c.self.inside.inside.pending_out.remembered agree pending.kept c.self.invariant.keys_out);

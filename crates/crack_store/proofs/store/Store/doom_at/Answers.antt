@@ -1,7 +1,7 @@
 use Rattle.std.proofs.Common.{◌≡◌, false, [], Some, refl, ap, ◌∙◌, inr, arith}
 use Rattle.crack_arena.specs.Memories.{memory_at}
 use Rattle.crack_pending.specs.Pending.{Pending}
-use Rattle.crack_state.specs.State.{handle_of}
+use Rattle.crack_serials.specs.Serials.{handle_of}
 use Rattle.crack_state.specs.Points.{pending_by, MayFree, doomed_too}
 use Rattle.crack_state.specs.Steps.{SameButRoom}
 use Rattle.crack_state.proofs.LayoutLaws.{cells-intact, pending_out-few}
@@ -50,15 +50,15 @@ invariant_of-self-2 c =
     let s = lists_of c.self.inside.inside in
     let lead = c.args.lead in
     let h = lead.handle in
-    let entries = c.forget_at.new.serials.entries in
-    let new = record c.self.inside.inside { pending_out = c.push_remembered.new.self; serials = c.forget_at.new.serials } in
+    let entries = c.forget_at.new.self.entries in
+    let new = record c.self.inside.inside { pending_out = c.push_remembered.new.self; serials = c.forget_at.new.self } in
     let found : handle_of s.serials lead.serial.0 ≡ Some h = rw (← c.self.view_is) at c.requires.found in
     let column : pending_by s lead.serial.0 ≡ Some false = rw (← c.self.view_is) at c.requires.column in
     let few : MayFree s = rw (← c.self.view_is) at c.requires.few in
     let after : SameButRoom (record (doomed_too h s) { serials = entries }) (lists_of new) = record { same = rw (c.push_remembered.ensures.after, c.in_ok-make_places.ensures.same, c.in_ok-reserve.ensures.same) refl } in
     let known : c.of.result ≡ memory_at s.cells h = c.of.ensures ∙ memory-read s.cells h c.row_at-row.result c.row_at-row.ensures in
     record {
-      intact = IsIntact-room (record (doomed_too h s) { serials = entries }) (lists_of new) [] after (IsIntact-doomed s lead.serial.0 h entries found (column_handle s lead.serial.0 h column found) c.forget_at.ensures few c.self.invariant.intact);
+      intact = IsIntact-room (record (doomed_too h s) { serials = entries }) (lists_of new) [] after (IsIntact-doomed s lead.serial.0 h entries found (column_handle s lead.serial.0 h column found) c.forget_at.ensures.updates few c.self.invariant.intact);
       remembers = c.self.invariant.remembers;
       keys_in = c.self.invariant.keys_in;
       keys_out = c.push_remembered.ensures.remembered s.cells (inr known) (c.in_ok-make_places.ensures.remembered s.cells (c.in_ok-reserve.ensures.remembered s.cells c.self.invariant.keys_out));

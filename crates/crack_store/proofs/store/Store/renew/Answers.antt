@@ -3,9 +3,9 @@ use Rattle.crack_row.specs.Ranges.{IsIn}
 use Rattle.crack_arena.specs.Arena.{cells_with, read}
 use Rattle.crack_arena.specs.Memories.{memory_at}
 use Rattle.crack_pending.specs.Pending.{Pending}
-use Rattle.crack_state.specs.State.{handle_of}
+use Rattle.crack_serials.specs.Serials.{handle_of, Maps}
 use Rattle.crack_state.specs.Steps.{SameButRoom, next_handle}
-use Rattle.crack_state.specs.Points.{pending_by, Maps, IsRenewable, renewed}
+use Rattle.crack_state.specs.Points.{pending_by, IsRenewable, renewed}
 use Rattle.crack_state.proofs.LayoutLaws.{cells-intact, pending_out-few}
 use Rattle.crack_state.proofs.StepLaws.{IsIntact-room}
 use Rattle.crack_state.proofs.PointLaws.{stands1, reads_by, IsIntact-renewed, live_rows-renewed}
@@ -84,7 +84,7 @@ handle c =
     next
 
 -- the store is the renewed one, but for room
-after : (c : goal.After-self-1) → SameButRoom (record (renewed c.args.row c.args.lead.handle (lists_of c.self.inside.inside)) { serials = c.lead_to.new.serials.entries }) (lists_of (record c.self.inside.inside { arena = c.put_reserved-handle.new.self; pending_in = c.push_remembered-2.new.self; pending_out = c.push_remembered.new.self; in_room = 0; serials = c.lead_to.new.serials }))
+after : (c : goal.After-self-1) → SameButRoom (record (renewed c.args.row c.args.lead.handle (lists_of c.self.inside.inside)) { serials = c.lead_to.new.self.entries }) (lists_of (record c.self.inside.inside { arena = c.put_reserved-handle.new.self; pending_in = c.push_remembered-2.new.self; pending_out = c.push_remembered.new.self; in_room = 0; serials = c.lead_to.new.self }))
 after c =
     let s = lists_of c.self.inside.inside in
     let cells_is : c.reserve-3.new.self.cells ≡ s.cells = ap (λ a. a.cells) c.in_ok-reserve-3.ensures.same in
@@ -105,12 +105,12 @@ invariant_of-self-2 c =
     let h = c.args.lead.handle in
     let n = c.put_reserved-handle.result in
     let found : handle_of s.serials row.serial.0 ≡ Some h = rw (← c.self.view_is) at c.requires.found in
-    let entries = c.lead_to.new.serials.entries in
-    let new = record c.self.inside.inside { arena = c.put_reserved-handle.new.self; pending_in = c.push_remembered-2.new.self; pending_out = c.push_remembered.new.self; in_room = 0; serials = c.lead_to.new.serials } in
+    let entries = c.lead_to.new.self.entries in
+    let new = record c.self.inside.inside { arena = c.put_reserved-handle.new.self; pending_in = c.push_remembered-2.new.self; pending_out = c.push_remembered.new.self; in_room = 0; serials = c.lead_to.new.self } in
     let column : pending_by s row.serial.0 ≡ Some false = rw (← c.self.view_is) at c.requires.column in
     let inside : IsIn s.keys row.key.0 = rw (← c.self.view_is) at c.requires.within in
     let may : IsRenewable s = rw (← c.self.view_is) at c.requires.few in
-    let maps : Maps row.serial.0 (Some (next_handle s)) s.serials entries = rw (c.requires.serial, handle c) at c.lead_to.ensures in
+    let maps : Maps row.serial.0 (Some (next_handle s)) s.serials entries = rw (c.requires.serial, handle c) at c.lead_to.ensures.updates in
     let cells = cells_with row s.cells s.free in
     let plus : Added row s n = added row s c.self.invariant.intact n (handle c) in
     let kept_in = c.self.inside.inside.pending_in in

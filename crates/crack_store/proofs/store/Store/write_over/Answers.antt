@@ -3,7 +3,7 @@ use Rattle.std.proofs.lemmas.List.{get_or_default}
 use Rattle.crack_row.specs.Ranges.{IsIn}
 use Rattle.crack_arena.specs.Arena.{read, set_at, place_in, no_handle}
 use Rattle.crack_arena.specs.Memories.{memory_at}
-use Rattle.crack_state.specs.State.{handle_of}
+use Rattle.crack_serials.specs.Serials.{handle_of}
 use Rattle.crack_state.specs.Points.{pending_by, overwritten}
 use Rattle.crack_state.proofs.PointLaws.{handle_by-is, reads_by, IsIntact-rewritten, live_rows-rewritten}
 use Rattle.crack_store.specs.Inside.{lists_of}

@@ -1,12 +1,12 @@
 use Rattle.std.proofs.Common.{Some, drop, refl, sym, ◌∙◌, arith}
 use Rattle.std.proofs.lemmas.Bool.{true≢false}
-use Rattle.crack_store.specs.Sweepings.{IsReady}
+use Rattle.crack_store.specs.Sweepings.{IsSweepReady}
 use Rattle.crack_store.proofs.SweepWalks.{none-below, Sweeps-off, IsReady-on}
 use Rattle.crack_store.proofs.sweeping.SweepPlacer.place.Goals as goal
 use Rattle.crack_store.proofs.sweeping.SweepPlacer.place.Goals.{After-number-self}
 
 -- none of the rows is below the bound
-ready : (c : After-number-self) → IsReady (record c.args.self.now { low = c.number-self.result; start = c.args.mark.position; count = 0 })
+ready : (c : After-number-self) → IsSweepReady (record c.args.self.now { low = c.number-self.result; start = c.args.mark.position; count = 0 })
 ready c =
     let v = c.args.self.now in
     IsReady-on v c.number-self.result c.args.mark.position c.requires (omega (arith, c.if-position-self.false)) (omega (arith, c.if-number-self.false, c.number.ensures, c.number-self.ensures)) (omega (arith, c.is_up_to.ensures.0 c.if-is_up_to.true, c.number-self.ensures))

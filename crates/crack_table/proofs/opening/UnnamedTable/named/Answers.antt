@@ -1,5 +1,5 @@
 use Rattle.std.proofs.Common.{◌≡◌, ◌+◌, ℕ, length, ap, sym, subst, ◌∙◌, arith, vec_len}
-use Rattle.crack_witness.specs.Witnesses.{AreApart}
+use Rattle.crack_witness.specs.Witnesses.{OwnersDiffer}
 use Rattle.crack_table.specs.Tables.{TableState}
 use Rattle.crack_table.specs.Opening.{UnnamedState, AreNewWorkers}
 use Rattle.crack_table.proofs.Hiring.{witnessed_count}
@@ -20,7 +20,7 @@ invariant_of-table g c =
       limited = c.self.invariant.limited;
       few = c.self.invariant.few;
       all = locks ∙ parts;
-      apart = subst (AreApart g.J.Naming.owner) (sym locks) c.in_ok-front.ensures.apart;
+      apart = subst (OwnersDiffer g.J.Naming.owner) (sym locks) c.in_ok-front.ensures.apart;
     }
 
 pub returns-clause-table : goal.returns-clause-table
@@ -42,4 +42,4 @@ returns-clause-workers g c =
 pub returns-clause-apart : goal.returns-clause-apart
 returns-clause-apart g c =
     let parts : length c.in_ok-parts.parts.items ≡ length c.self.inside.splits.items + 1 = rw c.deref.ensures.value at c.in_ok-parts.ensures.parts.count in
-    subst (λ (t : UnnamedState). AreApart g.J.Naming.owner t.table.locks) c.self.view_is (subst (AreApart g.J.Naming.owner) parts c.in_ok-front.ensures.apart)
+    subst (λ (t : UnnamedState). OwnersDiffer g.J.Naming.owner t.table.locks) c.self.view_is (subst (OwnersDiffer g.J.Naming.owner) parts c.in_ok-front.ensures.apart)
