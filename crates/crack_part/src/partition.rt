@@ -203,12 +203,13 @@ impl Partition {
         self.is_at_limit() && is_automatic(self.limits.upkeep)
     }
 
-    /// Makes room for the next `rows` insertions, if memory for them is found. Changes nothing else. O(1), except for
-    /// growth.
+    /// Makes room for the next `rows` insertions, at most for as many as there may be cells, if memory for them is
+    /// found. Changes nothing else. O(1), except for growth.
     pub fn make_room_for(&mut self, rows: usize)
         ensures { self.new ≡ self.old }
     {
-        let _ = self.store.make_room_for(Serial(self.next), rows);
+        let most = self.limits.cells as usize;
+        let _ = self.store.make_room_for(Serial(self.next), rows.min(most));
     }
 
     /// Answers one command, and counts it.
