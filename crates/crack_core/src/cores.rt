@@ -28,6 +28,22 @@ use std::marker::Model;
 
 /// Partitions by key range, asked by one thread. Contracts see the splits, the limits of each partition, and the
 /// partitions.
+///
+/// An example, from a test:
+///
+/// ```
+/// let insert = Command::Insert {
+///     key: Key::from_number(7),
+///     payload: Payload::from_number(70),
+/// };
+/// let count = Command::Count(KeyRange::all());
+/// let steps = [step(0, insert), step(7, count), step(0, count)];
+/// let results = core.run_steps(&steps).expect(rt, "memory");
+/// assert!(rt; results.len() == 3);
+/// assert!(rt; matches!(results[0], Ok(Reply::Placed(Serial(0)))));
+/// assert!(rt; matches!(results[1], Err(Refusal::NoSuchPartition)));
+/// assert!(rt; matches!(results[2], Ok(Reply::Counted(1))));
+/// ```
 #[derive(Drop)]
 pub struct Core {
     splits: Vec<Bound>,

@@ -11,6 +11,22 @@ pub struct Step {
 }
 
 /// A call of a core: a step, or a checkpoint of a partition.
+///
+/// An example, from a test:
+///
+/// ```
+/// if let Statement::Checkpoint(part) = statement {
+///     return Job::Fold(part);
+/// }
+/// let command = command_of(statement).expect(rt, "a command");
+/// Job::Perform(Step {
+///     part: 0,
+///     command,
+///     policy: Policy::Ripple,
+/// })
+/// // ..
+/// core.run_jobs(jobs).expect(rt, "memory")
+/// ```
 #[derive(Clone, Copy, Debug)]
 pub enum Job {
     /// Perform a step.
@@ -20,6 +36,16 @@ pub enum Job {
 }
 
 /// What a job that wasn't refused has done.
+///
+/// An example, from a test:
+///
+/// ```
+/// let told = match &done[place] {
+///     Ok(Done::Replied(reply)) => write_reply(0, reply, &mut writer),
+///     Ok(Done::Folded(count)) => write_folded(*count, &mut writer),
+///     Err(refusal) => write_refusal(refusal, &mut writer),
+/// };
+/// ```
 #[derive(Drop, Debug)]
 pub enum Done {
     /// A step was performed, with this reply.
