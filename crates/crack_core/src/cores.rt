@@ -144,7 +144,7 @@ impl Core {
     }
 
     /// The layout of one partition. Cracks and merges nothing, and isn't counted as a command. Refused with
-    /// `NoSuchPartition` if there is none, and with `OutOfMemory` if no memory is found. O(pieces).
+    /// `NoSuchPartition` if there is no such partition, and with `OutOfMemory` if no memory is found. O(pieces).
     pub fn layout(&self, part: u32) -> Result<Layout, Refusal>
         ensures outcome { IsLayoutOutcome (keys_of_part self.now.splits part)
             (slice_get (tables_of self.now.parts) part) result }
@@ -158,7 +158,7 @@ impl Core {
     }
 
     /// The statistics of one partition, for monitoring: how many rows, cells and commands it has. Cracks and merges
-    /// nothing, and isn't counted as a command. Refused with `NoSuchPartition` if there is none. O(1).
+    /// nothing, and isn't counted as a command. Refused with `NoSuchPartition` if there is no such partition. O(1).
     pub fn statistics(&self, part: u32) -> Result<Statistics, Refusal>
         ensures outcome { IsStatisticsOutcome (slice_get (tables_of self.now.parts) part) result }
         ensures expected { result ≡ expected_statistics (slice_get self.now.parts part) }
@@ -170,7 +170,7 @@ impl Core {
     }
 
     /// Performs a step: asks one partition, by one call of `Partition::apply`. Refused, in this order: with
-    /// `NoSuchPartition` if there is none, with `KeyOutside` if the command has a key that isn't the partition's,
+    /// `NoSuchPartition` if there is no such partition, with `KeyOutside` if the command has a key of another partition,
     /// with `HistoryFull` if the partition has accepted as many commands as its limit since its last checkpoint and
     /// upkeep is on request, with `LifeOver` if it has accepted as many as its limit `life` since it was opened, with
     /// `NoCell` if no cell is free for a row and upkeep frees none, and with `OutOfMemory` if no memory is found.
@@ -224,7 +224,7 @@ impl Core {
 
     /// Makes a checkpoint of one partition, and returns how many commands it had accepted since its previous one;
     /// that count restarts at 0. Cracks and merges nothing, takes no memory, and changes no later reply. Refused
-    /// with `NoSuchPartition` if there is none; then nothing has changed.
+    /// with `NoSuchPartition` if there is no such partition; then nothing has changed.
     pub fn checkpoint(&mut self, part: u32) -> Result<u64, Refusal>
         ensures outcome { result ≡ expected_fold (slice_get (tables_of self.old.parts) part) }
         ensures after { tables_of self.new.parts ≡ changed_at checkpointed (tables_of self.old.parts) part result }
@@ -325,7 +325,7 @@ fn run_all(partitions: &mut [Partition], steps: &[Step], results: &mut Vec<Resul
     }
 }
 
-/// Makes a checkpoint of one partition. Refused with `NoSuchPartition` if there is none.
+/// Makes a checkpoint of one partition. Refused with `NoSuchPartition` if there is no such partition.
 fn fold_at(partitions: &mut [Partition], part: u32) -> Result<u64, Refusal>
     ensures outcome { result ≡ expected_fold (slice_get (tables_of partitions.old) part) }
     ensures after { tables_of partitions.new ≡ changed_at checkpointed (tables_of partitions.old) part result }
