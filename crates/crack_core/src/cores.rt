@@ -170,11 +170,11 @@ impl Core {
     }
 
     /// Performs a step: asks one partition, by one call of `Partition::apply`. Refused, in this order: with
-    /// `NoSuchPartition` if there is no such partition, with `KeyOutside` if the command has a key of another partition,
-    /// with `HistoryFull` if the partition has accepted as many commands as its limit since its last checkpoint and
-    /// upkeep is on request, with `LifeOver` if it has accepted as many as its limit `life` since it was opened, with
-    /// `NoCell` if no cell is free for a row and upkeep frees none, and with `OutOfMemory` if no memory is found.
-    /// Only `OutOfMemory` may leave a change, which `Partition::apply` describes.
+    /// `NoSuchPartition` if there is no such partition, with `KeyOutside` if the command has a key of another
+    /// partition, with `HistoryFull` if the partition has accepted as many commands as its limit since its last
+    /// checkpoint and upkeep is on request, with `LifeOver` if it has accepted as many as its limit `life` since it
+    /// was opened, with `NoCell` if no cell is free for a row and upkeep frees none, and with `OutOfMemory` if no
+    /// memory is found. Only `OutOfMemory` may leave a change, which `Partition::apply` describes.
     #[inline(always)]
     pub fn step(&mut self, step: Step) -> Result<Reply, Refusal>
         // The outcome is the reply that the partition's plain rows give, or the refusal that they require. In place
