@@ -12,10 +12,29 @@ pub struct Row {
     pub payload: i64,
 }
 
-#[derive(Clone, Copy)]
+/// The number of a cell in the low 24 bits, and its generation in the upper 40.
+#[derive(Clone, Copy, PartialEq, Eq)]
 pub struct Handle {
-    pub slot: u32,
-    pub generation: u64,
+    word: u64,
+}
+
+impl Handle {
+    /// The handle of a cell that doesn't exist.
+    pub const NONE: Handle = Handle { word: u64::MAX };
+
+    fn new(slot: u32, generation: u64) -> Handle {
+        Handle {
+            word: generation << 24 | u64::from(slot),
+        }
+    }
+
+    pub fn slot(self) -> u32 {
+        self.word as u32 & 0xff_ffff
+    }
+
+    fn generation(self) -> u64 {
+        self.word >> 24
+    }
 }
 
 struct Cell<T> {
@@ -64,10 +83,7 @@ impl<T> Arena<T> {
                 generation: 0,
                 content: Content::Full(value),
             });
-            return Handle {
-                slot,
-                generation: 0,
-            };
+            return Handle::new(slot, 0);
         };
         let cell = &mut self.cells[slot as usize];
         let generation = cell.generation;
@@ -75,26 +91,26 @@ impl<T> Arena<T> {
         if let Content::Free(next) = mem::replace(&mut cell.content, Content::Full(value)) {
             self.head = next;
         }
-        Handle { slot, generation }
+        Handle::new(slot, generation)
     }
 
     pub fn get(&self, handle: Handle) -> Option<&T> {
-        let cell = self.cells.get(handle.slot as usize)?;
+        let cell = self.cells.get(handle.slot() as usize)?;
         match &cell.content {
-            Content::Full(value) if cell.generation == handle.generation => Some(value),
+            Content::Full(value) if cell.generation == handle.generation() => Some(value),
             _ => None,
         }
     }
 
     pub fn free(&mut self, handle: Handle) -> Option<T> {
         let head = self.head;
-        let cell = self.cells.get_mut(handle.slot as usize)?;
-        if cell.generation != handle.generation || matches!(cell.content, Content::Free(_)) {
+        let cell = self.cells.get_mut(handle.slot() as usize)?;
+        if cell.generation != handle.generation() || matches!(cell.content, Content::Free(_)) {
             return None;
         }
         cell.generation += 1;
         let content = mem::replace(&mut cell.content, Content::Free(head));
-        self.head = Some(handle.slot);
+        self.head = Some(handle.slot());
         self.free += 1;
         self.freed += 1;
         match content {

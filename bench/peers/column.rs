@@ -1,6 +1,5 @@
-//! A cracker column over an arena: generations of cells, which no crack moves, and places in cracked order, each with
-//! the remembered key of its row, the number of its cell and the ticket of its generation; the payloads are in a list
-//! of their own, which is all that a sum reads.
+//! A cracker column over an arena: places in cracked order, each with the remembered key of its row and its handle; the
+//! payloads are in a list of their own, which is all that a sum reads.
 
 use crate::arena::{Arena, Handle, Row, fill};
 use crate::numbers::{Numbers, mixed};
@@ -13,8 +12,7 @@ pub const UNKNOWN: u64 = u64::MAX;
 #[derive(Clone, Copy)]
 pub struct Place {
     key: u64,
-    ticket: u32,
-    slot: u32,
+    handle: Handle,
 }
 
 /// A handle, and what is remembered of its row.
@@ -25,9 +23,17 @@ pub struct Held {
     pub payload: i64,
 }
 
+impl Held {
+    fn place(self) -> Place {
+        Place {
+            key: self.key,
+            handle: self.handle,
+        }
+    }
+}
+
 #[derive(Default)]
 pub struct Column {
-    generations: Vec<u64>,
     places: Vec<Place>,
     payloads: Vec<i64>,
     len: usize,
@@ -41,25 +47,20 @@ impl Column {
 
     pub fn reserve(&mut self, additional: usize) {
         let more = additional.saturating_sub(self.places.len() - self.len);
-        self.generations.reserve(more);
         self.places.reserve(more);
         self.payloads.reserve(more);
     }
 
     pub fn slot_at(&self, place: usize) -> u32 {
-        self.places[..self.len][place].slot
+        self.places[..self.len][place].handle.slot()
     }
 
     pub fn slots(&self, from: usize, to: usize) -> impl Iterator<Item = u32> {
-        self.places[from..to].iter().map(|it| it.slot)
+        self.places[from..to].iter().map(|it| it.handle.slot())
     }
 
     fn held(&self, place: usize) -> Held {
-        let Place { key, ticket, slot } = self.places[place];
-        let handle = Handle {
-            slot,
-            generation: self.generations[ticket as usize],
-        };
+        let Place { key, handle } = self.places[place];
         Held {
             handle,
             key,
@@ -70,23 +71,15 @@ impl Column {
     /// Puts a row aside, after the last place.
     pub fn set_aside(&mut self, held: Held) {
         if self.len == self.places.len() {
-            let ticket = self.places.len() as u32;
-            self.generations.push(0);
-            self.places.push(Place {
-                key: UNKNOWN,
-                ticket,
-                slot: 0,
-            });
-            self.payloads.push(0);
+            self.places.push(held.place());
+            self.payloads.push(held.payload);
+        } else {
+            self.keep(self.len, held);
         }
-        self.keep(self.len, held);
     }
 
-    /// Puts a row at the place, and its generation under the ticket there.
     fn keep(&mut self, place: usize, held: Held) {
-        let here = &mut self.places[place];
-        self.generations[here.ticket as usize] = held.handle.generation;
-        (here.key, here.slot) = (held.key, held.handle.slot);
+        self.places[place] = held.place();
         self.payloads[place] = held.payload;
     }
 
@@ -100,7 +93,7 @@ impl Column {
         self.unread -= (self.places[self.len].key == UNKNOWN) as usize;
     }
 
-    /// The row aside and the one at the place change places, with their tickets.
+    /// The row aside and the one at the place change places.
     pub fn exchange(&mut self, place: usize) {
         let (aside, there) = (self.places[self.len], self.places[place]);
         self.places[place] = aside;
@@ -115,7 +108,7 @@ impl Column {
     }
 
     pub fn aside_slot(&self) -> u32 {
-        self.places[self.len].slot
+        self.places[self.len].handle.slot()
     }
 
     pub fn aside_key(&self) -> u64 {
@@ -139,7 +132,7 @@ impl Column {
     pub fn crack_two(&mut self, from: usize, to: usize, bound: u64, arena: &Arena<Row>) -> usize {
         let (places, payloads) = (&mut self.places[from..to], &mut self.payloads[from..to]);
         if self.unread > 0 {
-            self.unread -= learn(places, payloads, &self.generations, arena);
+            self.unread -= learn(places, payloads, arena);
         }
         from + divide(places, payloads, bound)
     }
@@ -147,7 +140,7 @@ impl Column {
     pub fn crack_three(&mut self, from: usize, to: usize, low: u64, high: u64, arena: &Arena<Row>) -> (usize, usize) {
         let (places, payloads) = (&mut self.places[from..to], &mut self.payloads[from..to]);
         if self.unread > 0 {
-            self.unread -= learn(places, payloads, &self.generations, arena);
+            self.unread -= learn(places, payloads, arena);
         }
         let (middle, upper) = divide_three(places, payloads, low, high);
         (from + middle, from + upper)
@@ -164,15 +157,11 @@ impl Column {
 }
 
 /// Reads each row that isn't known. Returns how many are known now.
-fn learn(places: &mut [Place], payloads: &mut [i64], generations: &[u64], arena: &Arena<Row>) -> usize {
+fn learn(places: &mut [Place], payloads: &mut [i64], arena: &Arena<Row>) -> usize {
     let mut learned = 0;
     for (place, payload) in places.iter_mut().zip(payloads) {
         if place.key == UNKNOWN {
-            let handle = Handle {
-                slot: place.slot,
-                generation: generations[place.ticket as usize],
-            };
-            if let Some(row) = arena.get(handle) {
+            if let Some(row) = arena.get(place.handle) {
                 (place.key, *payload) = (row.key, row.payload);
             }
             learned += (place.key != UNKNOWN) as usize;

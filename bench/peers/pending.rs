@@ -3,8 +3,8 @@
 
 use crate::arena::Handle;
 
-/// The number of a cell that doesn't exist: a hole.
-const HOLE: u32 = u32::MAX;
+/// Stands for the place of a row that is in no list.
+const NOWHERE: u32 = u32::MAX;
 
 /// How many keys are compared before there is a branch.
 const BLOCK: usize = 16;
@@ -29,19 +29,19 @@ impl Pending {
 
     pub fn cover(&mut self, cells: usize) {
         if cells > self.spots.len() {
-            self.spots.resize(cells, HOLE);
+            self.spots.resize(cells, NOWHERE);
         }
     }
 
     pub fn push(&mut self, handle: Handle, key: u64) {
-        self.spots[handle.slot as usize] = self.handles.len() as u32;
+        self.spots[handle.slot() as usize] = self.handles.len() as u32;
         self.handles.push(handle);
         self.keys.push(key);
     }
 
     fn spot_of(&self, slot: u32) -> Option<usize> {
         let spot = *self.spots.get(slot as usize)? as usize;
-        (self.handles.get(spot)?.slot == slot).then_some(spot)
+        (self.handles.get(spot)?.slot() == slot).then_some(spot)
     }
 
     pub fn contains(&self, slot: u32) -> bool {
@@ -51,7 +51,7 @@ impl Pending {
     /// Takes the row of this spot, which leaves a hole.
     pub fn take(&mut self, spot: usize) -> (Handle, u64) {
         let handle = self.handles[spot];
-        self.handles[spot].slot = HOLE;
+        self.handles[spot] = Handle::NONE;
         self.holes += 1;
         (handle, self.keys[spot])
     }
@@ -71,10 +71,10 @@ impl Pending {
         let mut to = 0;
         for from in 0..self.handles.len() {
             let handle = self.handles[from];
-            if handle.slot != HOLE {
+            if handle != Handle::NONE {
                 self.handles[to] = handle;
                 self.keys[to] = self.keys[from];
-                self.spots[handle.slot as usize] = to as u32;
+                self.spots[handle.slot() as usize] = to as u32;
                 to += 1;
             }
         }
@@ -99,12 +99,12 @@ impl Pending {
                 any |= is_in(block[i]) as u32;
             }
             if any != 0
-                && let Some(i) = (0..BLOCK).find(|i| is_in(block[*i]) && self.handles[from + i].slot != HOLE)
+                && let Some(i) = (0..BLOCK).find(|i| is_in(block[*i]) && self.handles[from + i] != Handle::NONE)
             {
                 return Some(from + i);
             }
             from += BLOCK;
         }
-        (from..len).find(|spot| is_in(self.keys[*spot]) && self.handles[*spot].slot != HOLE)
+        (from..len).find(|spot| is_in(self.keys[*spot]) && self.handles[*spot] != Handle::NONE)
     }
 }

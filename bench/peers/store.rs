@@ -71,8 +71,8 @@ impl Store {
         let handle = self.serials.get(serial)?;
         let row = *self.arena.get(handle)?;
         self.serials.remove(serial);
-        if self.pending_in.contains(handle.slot) {
-            self.pending_in.strike(handle.slot);
+        if self.pending_in.contains(handle.slot()) {
+            self.pending_in.strike(handle.slot());
             self.arena.free(handle);
         } else {
             self.doom(handle, row.key);
@@ -153,7 +153,7 @@ impl Store {
         let mut spot = 0;
         while let Some(found) = self.pending_out.next_in(low, high, spot) {
             let (doomed, key) = self.pending_out.take(found);
-            let place = self.place_of(doomed.slot, key);
+            let place = self.place_of(doomed.slot(), key);
             let filler = fillers.and_then(|from| self.pending_in.next_in(high, beyond, from));
             fillers = filler.map(|it| it + 1);
             match filler {
@@ -175,7 +175,7 @@ impl Store {
     }
 
     fn bury(&mut self, hand: Handle) {
-        self.pending_out.strike(hand.slot);
+        self.pending_out.strike(hand.slot());
         self.arena.free(hand);
     }
 
@@ -217,7 +217,7 @@ impl Store {
                 return self.column.append(held);
             }
             hand = self.column.swap_in(to, held).handle;
-            if self.pending_out.contains(hand.slot) {
+            if self.pending_out.contains(hand.slot()) {
                 return self.bury(hand);
             }
         }
@@ -253,7 +253,7 @@ impl Store {
     /// Takes a doomed row out of the column: the hand moves down to its place, piece by piece.
     fn pull(&mut self, doomed: Handle, place: usize) {
         let mut mark = self.index.up_to(self.column.aside_key());
-        while self.column.aside_slot() != doomed.slot {
+        while self.column.aside_slot() != doomed.slot() {
             let from = mark.checked_sub(1).map_or(0, |it| self.index.marks[it].position);
             let to = if from <= place { place } else { from - 1 };
             if from > place {

@@ -1,8 +1,8 @@
 -- The steps between the free cells.
 use Rattle.std.proofs.Common.{◌≡◌, ◌≢◌, ℕ, zero, suc, ◌+◌, ◌-◌, ◌%◌, ◌<◌, ◌≤◌, Bool, true, false, List, [], ◌∷◌, ◌++◌, length, get_or, set, cond, ltb, eqb, Option, Some, None, is_some, count_by, refl, sym, ap, ◌∙◌, inl, inr, arith, length-set, add-one}
 use Rattle.std.specs.Prelude.{is_none, not}
-use Rattle.std.proofs.lemmas.List.{get_or_default, get_or-set_same, get_or-set_other, get_or_past, get_or_push, get_or_append_left, length_push, length-map, get_or-map, map-set, map-append}
-use Rattle.std.proofs.lemmas.List.Sums.{sum_by-cons, sum_by-set, sum_by_push}
+use Rattle.std.proofs.lemmas.List.{get_or_default, get_or-set_same, get_or-set_other, get_or_past, length-map, get_or-map, map-set, map-append}
+use Rattle.std.proofs.lemmas.List.Sums.{sum_by-cons, sum_by-set}
 use Rattle.std.proofs.lemmas.Bool.{cases_eq, cases_lt, lt-ltb, le-ltb, ltb-true, eqb-true, ne_eqb, true≢false}
 use Rattle.crack_arena.specs.declared.TheConstants.{MOST_CELLS}
 use Rattle.crack_arena.specs.Arena.{times, Handle, no_handle, empty_cell, cell_at, handle_for, put_in, set_at, freed_at, read, vacancy_at, IsWhole}
@@ -139,30 +139,6 @@ IsLinked-free words head k free freed g next within full same few leads sound =
       total = omega (arith, sound.total, same, sum_by-set (λ (x : Handle). x.generation) words k w no_handle within);
       small = omega (arith, sound.small, length-set words k w);
     })
-
-vacant_at_pushed : (words : List Handle) (w : Handle) (m : ℕ) → is_full w ≡ true → vacant_at (words ++ w ∷ []) m ≡ vacant_at words m
-vacant_at_pushed words w m full = elim (cases_lt m (length words)) [
-  | inl l ↦ rw (lt-ltb m (length words) l, lt-ltb m (length (words ++ w ∷ [])) (omega (arith, length_push words w)), get_or_append_left words (w ∷ []) no_handle m l) refl
-  | inr l ↦ elim (cases_eq m (length words)) [
-    | inl e ↦ rw (le-ltb m (length words) l, get_or_push words w no_handle m (sym e), full) (cond_same (ltb m (length (words ++ w ∷ []))))
-    | inr ne ↦ rw (le-ltb m (length words) l, le-ltb m (length (words ++ w ∷ [])) (omega (arith, length_push words w))) refl
-  ]
-]
-  where
-    cond_same : (b : Bool) → cond {A = ℕ} b 0 0 ≡ 0
-    cond_same true = refl
-    cond_same false = refl
-
--- a new cell
-pub IsLinked-push : (words : List Handle) (head free freed : ℕ) (w : Handle) → free ≡ 0 → is_full w ≡ true → w.generation ≡ 0 → length words < MOST_CELLS → IsLinked words head free freed → IsLinked (words ++ w ∷ []) head free freed
-IsLinked-push words head zero freed w none full new short sound =
-    record {
-      once = λ m. omega (arith, sound.once m, vacant_at_pushed words w m full);
-      counted = omega (arith, sound.counted, sum_by_push vacancy words w, (let none : vacancy w ≡ 0 = rw (full) refl in none));
-      total = omega (arith, sound.total, new, sum_by_push (λ (x : Handle). x.generation) words w);
-      small = omega (arith, length_push words w, short);
-    }
-IsLinked-push words head (suc n) freed w none full new short sound = absurd (omega (arith, none))
 
 -- a full cell is given another value
 pub IsLinked-write : (words : List Handle) (head k free freed : ℕ) (w : Handle) → k < length words → is_full (get_or words k no_handle) ≡ true → is_full w ≡ true → w.generation ≡ (get_or words k no_handle).generation → IsLinked words head free freed → IsLinked (set words k w) head free freed

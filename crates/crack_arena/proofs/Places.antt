@@ -21,9 +21,6 @@ pub place_in-slot : (hs : List Handle) (slot : ℕ) (d : Handle) → place_in hs
 place_in-slot hs slot d within =
     eqb-true (get_or hs (place_in hs slot) d).slot slot (passes_at_first (λ (x : Handle). x.slot == slot) hs d within)
 
-pub place_in-found : (hs : List Handle) (slot : ℕ) (h : Handle) → place_in hs slot < length hs → h ≡ get_or hs (place_in hs slot) h → h.slot ≡ slot
-place_in-found hs slot h within found = rw (← found) at (place_in-slot hs slot h within)
-
 -- a place with the slot is the first, if none before it has it
 pub place_in-is : (hs : List Handle) (slot place : ℕ) (d : Handle) → place < length hs → (get_or hs place d).slot ≡ slot → ((k : ℕ) → k < place → (get_or hs k d).slot ≢ slot) → place_in hs slot ≡ place
 place_in-is hs slot place d within at before =

@@ -1,5 +1,5 @@
 //! Handles, each of which names a cell at a generation.
-ghost use Rattle.std.specs.Prelude.{◌≡◌, ◌⊎◌, ◌<◌, ◌≤◌, ◌^◌, ⊤, MatchOption};
+ghost use Rattle.std.specs.Prelude.{◌≡◌, ⊤};
 ghost use Rattle.std.proofs.Common.{rules};
 ghost use Rattle.std.specs.Cmp.Rules.{comparing};
 ghost use Rattle.crack_arena.specs.Arena.{same_handle};
@@ -74,17 +74,6 @@ impl<T> Handle<T> {
         ensures { result ≡ record { slot = slot; generation = generation } }
     {
         Handle::of(Word::new(slot.number(), generation.number()))
-    }
-
-    /// The handle with these numbers, if 24 bits hold the slot and 40 the generation.
-    pub fn from_numbers(slot: u32, generation: u64) -> Option<Handle<T>>
-        ensures { MatchOption result ((2 ^ 24 ≤ slot) ⊎ (2 ^ 40 ≤ generation))
-            (λ handle. handle ≡ record { slot = slot; generation = generation }) }
-    {
-        match (Slot::from_number(slot), Generation::from_number(generation)) {
-            (Some(slot), Some(generation)) => Some(Handle::new(slot, generation)),
-            _ => None,
-        }
     }
 
     #[inline(always)]

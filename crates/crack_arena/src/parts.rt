@@ -1,12 +1,9 @@
 //! The two numbers of a handle, for code that stores them separately.
-ghost use Rattle.std.specs.Prelude.{◌≡◌, ◌%◌, ◌<◌, ◌≤◌, ◌^◌, ⊤, MatchOption};
+ghost use Rattle.std.specs.Prelude.{◌≡◌, ◌%◌, ◌<◌, ◌^◌, ⊤};
 
 use crate::words::{NUMBERS, Word};
 use std::alloc::AllocError;
 use std::marker::Model;
-
-/// The number of generations.
-const GENERATIONS: u64 = 1099511627776;
 
 /// The number of a cell, below 2^24.
 pub struct Slot {
@@ -41,17 +38,6 @@ impl Clone for Slot {
 }
 
 impl Slot {
-    /// The slot with this number, if 24 bits hold it.
-    pub fn from_number(number: u32) -> Option<Slot>
-        ensures { MatchOption result (2 ^ 24 ≤ number) (λ slot. slot ≡ number) }
-    {
-        if number < NUMBERS {
-            Some(Slot { number })
-        } else {
-            None
-        }
-    }
-
     /// The slot with the lowest 24 bits of this number.
     #[inline(always)]
     pub fn lowest(number: u32) -> Slot
@@ -113,17 +99,6 @@ impl Clone for Generation {
 }
 
 impl Generation {
-    /// The generation with this number, if 40 bits hold it.
-    pub fn from_number(number: u64) -> Option<Generation>
-        ensures { MatchOption result (2 ^ 40 ≤ number) (λ generation. generation ≡ number) }
-    {
-        if number < GENERATIONS {
-            Some(Generation { number })
-        } else {
-            None
-        }
-    }
-
     #[inline(always)]
     pub(crate) fn of(word: Word) -> Generation
         ensures { result ≡ word.generation }

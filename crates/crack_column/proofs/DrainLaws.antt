@@ -155,21 +155,6 @@ pub record IsDraining (low : ℕ) (high : Option InnerBound) (ds : List Doomed) 
   pub remembers : StillRemembers old new
   pub so_far : first + count_below low ds ≡ from → (start ≡ first + count_below low (drop i ds)) × (left_by low high ds (between from to old.handles) ≡ left_by low high (drop i ds) (between start end new.handles)) × (drawn doomed_key doomed_handle low (λ d. is_under high d.key) ds (between from to old.handles) ≡ pulled + drawn doomed_key doomed_handle low (λ d. is_under high d.key) (drop i ds) (between start end new.handles))
 
-pub IsDraining-start : (low : ℕ) (high : Option InnerBound) (ds : List Doomed) (gap from to : ℕ) (old : Column) → gap ≤ from → from ≤ to → IsDraining low high ds (from - gap) from to old old from to 0 0
-IsDraining-start low high ds gap from to old few order = record {
-  gap = omega arith;
-  order = order;
-  within = omega arith;
-  few = omega arith;
-  front = refl;
-  behind = refl;
-  long = refl;
-  room = refl;
-  aside = refl;
-  remembers = λ cells known. known;
-  so_far = λ all. (sym all, refl, omega arith);
-}
-
 take_less : (a b : ℕ) (xs ys : List Handle) → a ≤ b → take b xs ≡ take b ys → take a xs ≡ take a ys
 take_less a b xs ys few same = sym (take-take a b xs few) ∙ ap (take a) same ∙ take-take a b ys few
 

@@ -1,11 +1,11 @@
 -- The tags after an exchange with the row in hand.
 use Rattle.std.proofs.Common.{◌≡◌, ℕ, ◌<◌, List, length, get_or, set, sym, ◌∙◌, arith, length-set}
-use Rattle.std.proofs.lemmas.List.{get_or-set_same, get_or-set_other, set-set, set_comm, take-set-le}
+use Rattle.std.proofs.lemmas.List.{get_or-set_same, get_or-set_other, set-set, set_comm}
 use Rattle.crack_column.specs.declared.tag.Tag.{Tag}
 use Rattle.crack_column.specs.Inside.{no_tag}
 use Rattle.crack_column.specs.Held.{tags_with}
 use Rattle.crack_column.specs.Keeps.{IsHeld}
-use Rattle.crack_column.proofs.TicketLaws.{AreDrawn-exchange, unread-exchange}
+use Rattle.crack_column.proofs.PlaceLaws.{unread-set}
 
 module _ (ts : List Tag) (len place : ℕ) (hand there : Tag) (first : place < len) (some : len < length ts) (is : there ≡ get_or ts place no_tag) where
   -- the tags with the hand after the last place, and those afterwards
@@ -27,11 +27,11 @@ module _ (ts : List Tag) (len place : ℕ) (hand there : Tag) (first : place < l
       let moved : set before place hand ≡ set (set ts place hand) len hand = set_comm ts len place hand hand (λ e. absurd (omega (arith, e))) in
       rw (hand_is, there_is, moved) (sym (set-set (set ts place hand) len hand there))
 
-  pub IsHeld-exchange : (gs : List ℕ) (unread : ℕ) → IsHeld gs ts len unread hand → IsHeld gs (set ts place hand) len unread there
-  IsHeld-exchange gs unread held = record {
-    are = AreDrawn-exchange gs before after len place held.are first (omega (arith, length-set ts len hand)) swapped-held;
+  pub IsHeld-exchange : (unread : ℕ) → IsHeld ts len unread hand → IsHeld (set ts place hand) len unread there
+  IsHeld-exchange unread held = record {
     some = omega (arith, length-set ts place hand);
+    few = omega (arith, length-set ts place hand, held.few);
     counted =
-        let same = rw (hand_is, there_is, take-set-le len (set ts place hand) len there (omega arith), take-set-le len ts len hand (omega arith)) at (unread-exchange gs before after len place held.are first (omega (arith, length-set ts len hand)) swapped-held) in
+        let same = rw (← is) at (unread-set ts place hand len (omega arith) first) in
         omega (arith, same, held.counted);
   }

@@ -1,9 +1,9 @@
 -- Laws of tags that are kept as labels and payloads.
-use Rattle.std.proofs.Common.{◌≡◌, ℕ, zero, suc, ◌+◌, ◌-◌, ◌≤◌, List, [], ◌∷◌, ◌++◌, length, map, get_or, set, take, drop, refl, sym, ap, ◌∙◌, arith, length-append, length-set}
+use Rattle.std.proofs.Common.{◌≡◌, ℕ, zero, suc, ◌+◌, ◌-◌, ◌<◌, ◌≤◌, List, [], ◌∷◌, ◌++◌, length, map, get_or, set, take, drop, refl, sym, ap, ◌∙◌, arith, length-append, length-set}
 use borrow.Rule.Slice.PartMut.{post_of}
 use Rattle.std.specs.List.{All, between}
 use Rattle.std.specs.List.Sorted.{IsPermutation}
-use Rattle.std.proofs.lemmas.List.{length-take-le, length-drop, drop-drop, take_all, take-append-le, append_assoc, length-map}
+use Rattle.std.proofs.lemmas.List.{length-take-le, length-drop, drop-drop, take_all, take-append-le, append_assoc, length-map, get_or_default}
 use Rattle.std.proofs.lemmas.Slice.{between_is}
 use Rattle.crack_arena.specs.Arena.{Cell, Handle}
 use Rattle.crack_row.specs.declared.Row.{Row}
@@ -13,7 +13,7 @@ use Rattle.crack_row.proofs.Totals.{total_by-map}
 use Rattle.crack_column.specs.declared.tag.Label.{Label}
 use Rattle.crack_column.specs.declared.tag.Tag.{Tag}
 use Rattle.crack_column.specs.Column.{IsDividedAt}
-use Rattle.crack_column.specs.Tickets.{tag_handle}
+use Rattle.crack_column.specs.Places.{tag_handle}
 use Rattle.crack_column.specs.Keeps.{remembered_key, unread_in}
 use Rattle.crack_column.specs.Inside.{no_tag, label_of, label_handle, shifted, turned, forgotten, Read, Turns}
 use Rattle.crack_column.specs.Labels.{tag_of, tags_of}
@@ -33,6 +33,21 @@ get_or-tags_of [] (p ∷ ps) k beside = absurd (omega (arith, beside))
 get_or-tags_of (l ∷ ls) [] k beside = absurd (omega (arith, beside))
 get_or-tags_of (l ∷ ls) (p ∷ ps) zero beside = refl
 get_or-tags_of (l ∷ ls) (p ∷ ps) (suc k) beside = get_or-tags_of ls ps k (omega (arith, beside))
+
+-- a label that was read at a place, with any default
+pub label_read : (ls : List Label) (k : ℕ) (l : Label) → k < length ls → l ≡ get_or ls k l → l ≡ get_or ls k no_label
+label_read ls k l inside is = is ∙ get_or_default ls k l no_label inside
+
+pub same_read : (ls : List Label) (k : ℕ) (l m : Label) → k < length ls → m ≡ get_or ls k m → get_or ls k l ≡ m
+same_read ls k l m inside is = get_or_default ls k l m inside ∙ sym is
+
+pub tag_at : (ls : List Label) (ps : List Payload) (k : ℕ) (l : Label) → length ps ≡ length ls → k < length ls → get_or (tags_of ls ps) k no_tag ≡ tag_of (get_or ls k l) (get_or ps k no_tag.payload)
+tag_at ls ps k l beside inside =
+    get_or-tags_of ls ps k beside ∙ ap (λ (m : Label). tag_of m (get_or ps k no_tag.payload)) (get_or_default ls k no_label l inside)
+
+pub tag_read : (ls : List Label) (ps : List Payload) (k : ℕ) (l : Label) → length ps ≡ length ls → k < length ls → l ≡ get_or ls k l → get_or (tags_of ls ps) k no_tag ≡ tag_of l (get_or ps k no_tag.payload)
+tag_read ls ps k l beside inside is =
+    tag_at ls ps k l beside inside ∙ ap (λ (m : Label). tag_of m (get_or ps k no_tag.payload)) (sym is)
 
 pub set-tags_of : (ls : List Label) (ps : List Payload) (k : ℕ) (l : Label) (p : Payload) → tags_of (set ls k l) (set ps k p) ≡ set (tags_of ls ps) k (tag_of l p)
 set-tags_of [] ps k l p = refl
@@ -74,10 +89,10 @@ replaced-tags_of from to ls ls' ps ps' within beside beside' =
     let both : length (take from ps ++ ps') ≡ length (take from ls ++ ls') = omega (arith, front, length-append (take from ps) ps', length-append (take from ls) ls') in
     rw (append-tags_of (take from ls ++ ls') (drop to ls) (take from ps ++ ps') (drop to ps) both, append-tags_of (take from ls) ls' (take from ps) ps' front, take-tags_of from ls ps, drop-tags_of to ls ps) refl
 
-pub handles-tags_of : (gs : List ℕ) (ls : List Label) (ps : List Payload) → length ps ≡ length ls → map (tag_handle gs) (tags_of ls ps) ≡ map (label_handle gs) ls
-handles-tags_of gs [] ps beside = refl
-handles-tags_of gs (l ∷ ls) [] beside = absurd (omega (arith, beside))
-handles-tags_of gs (l ∷ ls) (p ∷ ps) beside = ap (λ (hs : List Handle). label_handle gs l ∷ hs) (handles-tags_of gs ls ps (omega (arith, beside)))
+pub handles-tags_of : (ls : List Label) (ps : List Payload) → length ps ≡ length ls → map tag_handle (tags_of ls ps) ≡ map label_handle ls
+handles-tags_of [] ps beside = refl
+handles-tags_of (l ∷ ls) [] beside = absurd (omega (arith, beside))
+handles-tags_of (l ∷ ls) (p ∷ ps) beside = ap (λ (hs : List Handle). label_handle l ∷ hs) (handles-tags_of ls ps (omega (arith, beside)))
 
 payloads-tags_of : (ls : List Label) (ps : List Payload) → length ps ≡ length ls → map (λ (t : Tag). t.payload) (tags_of ls ps) ≡ ps
 payloads-tags_of [] [] beside = refl
@@ -119,13 +134,13 @@ part_put from to n xs new order within whole long =
     rw (take-append-le n put (drop (length put) xs) (omega (arith, put_long)), take_all n put (omega (arith, put_long)), behind) (sym (append_assoc (take from xs) new (drop to xs)))
 
 -- a stretch of both lists was cracked
-pub Turns-parts : (cells : List (Cell Row)) (gs : List ℕ) (bound from to : ℕ) (ls ls' : List Label) (ps ps' : List Payload) (n m place learned : ℕ) → from ≤ to → to ≤ length ls → length ps ≡ length ls → n ≡ length ls → m ≡ length ps → length ls' ≡ to - from → length ps' ≡ to - from →
-    IsPermutation (map forgotten (tags_of (between from to ls) (between from to ps))) (map forgotten (tags_of ls' ps')) → All (Read cells gs) (tags_of ls' ps') → IsDividedAt bound (map remembered_key (tags_of ls' ps')) place → unread_in (tags_of ls' ps') + learned ≡ unread_in (tags_of (between from to ls) (between from to ps)) →
-    Turns cells gs bound from to (tags_of ls ps)
+pub Turns-parts : (cells : List (Cell Row)) (bound from to : ℕ) (ls ls' : List Label) (ps ps' : List Payload) (n m place learned : ℕ) → from ≤ to → to ≤ length ls → length ps ≡ length ls → n ≡ length ls → m ≡ length ps → length ls' ≡ to - from → length ps' ≡ to - from →
+    IsPermutation (map forgotten (tags_of (between from to ls) (between from to ps))) (map forgotten (tags_of ls' ps')) → All (Read cells) (tags_of ls' ps') → IsDividedAt bound (map remembered_key (tags_of ls' ps')) place → unread_in (tags_of ls' ps') + learned ≡ unread_in (tags_of (between from to ls) (between from to ps)) →
+    Turns cells bound from to (tags_of ls ps)
     (tags_of (take n ((take from ls ++ (ls' ++ post_of from (to - from) ls)) ++ drop (length (take from ls ++ (ls' ++ post_of from (to - from) ls))) ls))
     (take m ((take from ps ++ (ps' ++ post_of from (to - from) ps)) ++ drop (length (take from ps ++ (ps' ++ post_of from (to - from) ps))) ps)))
     (from + place) learned
-Turns-parts cells gs bound from to ls ls' ps ps' n m place learned order within beside whole_labels whole_payloads long_labels long_payloads kept read divided fewer =
+Turns-parts cells bound from to ls ls' ps ps' n m place learned order within beside whole_labels whole_payloads long_labels long_payloads kept read divided fewer =
     let parts = part_put from to n ls ls' order within whole_labels long_labels in
     let sides = part_put from to m ps ps' order (omega (arith, beside)) whole_payloads long_payloads in
     let long : length (tags_of ls' ps') ≡ to - from = length-tags_of ls' ps' (long_payloads ∙ sym long_labels) ∙ long_labels in

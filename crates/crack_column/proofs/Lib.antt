@@ -7,5 +7,5 @@ mod Passes
 mod SiftLaws
 mod Sifting
 mod SwapLaws
-mod TicketLaws
+mod PlaceLaws
 mod Thirds

@@ -16,7 +16,7 @@ use Rattle.crack_row.proofs.Totals.{total_by-agree}
 use Rattle.crack_arena.specs.Rows.{payload_of_row, amount_of_row, amount_at, unknown}
 use Rattle.crack_arena.specs.Memories.{Memory, memory_at}
 use Rattle.crack_column.specs.Column.{IsDividedAt}
-use Rattle.crack_column.specs.Tickets.{tag_handle}
+use Rattle.crack_column.specs.Places.{tag_handle}
 use Rattle.crack_column.specs.Keeps.{remembered_key}
 use Rattle.crack_column.specs.Inside.{no_tag, forgotten, shifted, Knows, Read}
 
@@ -130,27 +130,16 @@ divided_all bound ts ts' first low gap place is_last falls so_far =
     }
 
 -- the first i tags were read, this many of them weren't known and no more are, and nothing else was changed
-pub record IsLearned (cells : List (Cell Row)) (gens : List ℕ) (tags tags' : List Tag) (learned i : ℕ) : Type 0 where
+pub record IsLearned (cells : List (Cell Row)) (tags tags' : List Tag) (learned i : ℕ) : Type 0 where
   pub few : learned ≤ i
   pub fewer : times unknown (map remembered_key tags') + learned ≡ times unknown (map remembered_key tags)
   pub kept : map forgotten tags' ≡ map forgotten tags
-  pub known : All (Knows cells gens) tags'
-  pub read : (k : ℕ) → k < i → k < length tags' → Read cells gens (get_or tags' k no_tag)
-
-pub length-IsLearned : (cells : List (Cell Row)) (gs : List ℕ) (ts ts' : List Tag) (n i : ℕ) → IsLearned cells gs ts ts' n i → length ts' ≡ length ts
-length-IsLearned cells gs ts ts' n i so_far = omega (arith, length-map ts' forgotten, length-map ts forgotten, ap (λ (xs : List Tag). length xs) so_far.kept)
-
--- each ticket is still of a generation
-pub drawn-IsLearned : (cells : List (Cell Row)) (gs : List ℕ) (ts ts' : List Tag) (n i k : ℕ) (d : Tag) → IsLearned cells gs ts ts' n i → All (λ t. t.ticket < length gs) ts → k < length ts' → (get_or ts' k d).ticket < length gs
-drawn-IsLearned cells gs ts ts' n i k d so_far drawn inside =
-    let long = length-IsLearned cells gs ts ts' n i so_far in
-    let bare : forgotten (get_or ts' k d) ≡ forgotten (get_or ts k no_tag) = sym (get_or-map forgotten ts' k d no_tag inside) ∙ ap (λ (xs : List Tag). get_or xs k no_tag) so_far.kept ∙ get_or-map forgotten ts k no_tag no_tag (omega arith) in
-    let same : (get_or ts' k d).ticket ≡ (get_or ts k no_tag).ticket = ap (λ (t : Tag). t.ticket) bare in
-    omega (arith, same, drawn k no_tag (omega arith))
+  pub known : All (Knows cells) tags'
+  pub read : (k : ℕ) → k < i → k < length tags' → Read cells (get_or tags' k no_tag)
 
 -- the i-th tag is read
-pub IsLearned-read : (cells : List (Cell Row)) (gs : List ℕ) (ts ts1 ts2 : List Tag) (n n2 i : ℕ) (m : Memory) → i < length ts1 → m ≡ memory_at cells (tag_handle gs (get_or ts1 i no_tag)) → ts2 ≡ set ts1 i (record (get_or ts1 i no_tag) { key = m.key; payload = m.payload }) → (get_or ts1 i no_tag).key ≡ unknown → ((m.key ≡ unknown) × (n2 ≡ n)) ⊎ ((m.key ≢ unknown) × (n2 ≡ n + 1)) → IsLearned cells gs ts ts1 n i → IsLearned cells gs ts ts2 n2 (i + 1)
-IsLearned-read cells gs ts ts1 ts2 n n2 i m inside is after was which so_far =
+pub IsLearned-read : (cells : List (Cell Row)) (ts ts1 ts2 : List Tag) (n n2 i : ℕ) (m : Memory) → i < length ts1 → m ≡ memory_at cells (tag_handle (get_or ts1 i no_tag)) → ts2 ≡ set ts1 i (record (get_or ts1 i no_tag) { key = m.key; payload = m.payload }) → (get_or ts1 i no_tag).key ≡ unknown → ((m.key ≡ unknown) × (n2 ≡ n)) ⊎ ((m.key ≢ unknown) × (n2 ≡ n + 1)) → IsLearned cells ts ts1 n i → IsLearned cells ts ts2 n2 (i + 1)
+IsLearned-read cells ts ts1 ts2 n n2 i m inside is after was which so_far =
     let t : Tag = record (get_or ts1 i no_tag) { key = m.key; payload = m.payload } in
     let long : length ts2 ≡ length ts1 = rw after (length-set ts1 i t) in
     let here : get_or ts2 i no_tag ≡ t = rw after (get_or-set_same ts1 i t no_tag inside) in
@@ -179,8 +168,8 @@ IsLearned-read cells gs ts ts1 ts2 n n2 i m inside is after was which so_far =
     }
 
 -- the i-th row was known
-pub IsLearned-known : (cells : List (Cell Row)) (gs : List ℕ) (ts ts1 : List Tag) (n i : ℕ) → (get_or ts1 i no_tag).key ≢ unknown → IsLearned cells gs ts ts1 n i → IsLearned cells gs ts ts1 n (i + 1)
-IsLearned-known cells gs ts ts1 n i known so_far =
+pub IsLearned-known : (cells : List (Cell Row)) (ts ts1 : List Tag) (n i : ℕ) → (get_or ts1 i no_tag).key ≢ unknown → IsLearned cells ts ts1 n i → IsLearned cells ts ts1 n (i + 1)
+IsLearned-known cells ts ts1 n i known so_far =
     record {
       few = omega (arith, so_far.few);
       fewer = so_far.fewer;
@@ -192,12 +181,12 @@ IsLearned-known cells gs ts ts1 n i known so_far =
       ];
     }
 
-pub learned_all : (cells : List (Cell Row)) (gs : List ℕ) (ts ts' : List Tag) (n i : ℕ) → length ts' ≤ i → IsLearned cells gs ts ts' n i → All (Read cells gs) ts'
-learned_all cells gs ts ts' n i past so_far = λ k d l. rw (get_or_default ts' k d no_tag l) (so_far.read k (omega arith) l)
+pub learned_all : (cells : List (Cell Row)) (ts ts' : List Tag) (n i : ℕ) → length ts' ≤ i → IsLearned cells ts ts' n i → All (Read cells) ts'
+learned_all cells ts ts' n i past so_far = λ k d l. rw (get_or_default ts' k d no_tag l) (so_far.read k (omega arith) l)
 
 -- if each row is known, each tag has its row's key and payload
-pub all_read : (cells : List (Cell Row)) (gs : List ℕ) (ts : List Tag) → times unknown (map remembered_key ts) ≡ 0 → All (Knows cells gs) ts → All (Read cells gs) ts
-all_read cells gs ts none known = λ k d h. elim (known k d h) [
+pub all_read : (cells : List (Cell Row)) (ts : List Tag) → times unknown (map remembered_key ts) ≡ 0 → All (Knows cells) ts → All (Read cells) ts
+all_read cells ts none known = λ k d h. elim (known k d h) [
   | inl u ↦ absurd (omega (arith, none, times_map_at unknown remembered_key ts k d h u))
   | inr r ↦ r
 ]
@@ -207,8 +196,8 @@ abbrev pub amount_borne : Tag → ℤ
 amount_borne t = amount t.payload
 
 -- the sum of the payloads in the tags is that of their rows
-pub sum_all : (cells : List (Cell Row)) (gs : List ℕ) (ts : List Tag) → All (Read cells gs) ts → total_by amount_borne ts ≡ total_by (λ t. amount_at cells (tag_handle gs t)) ts
-sum_all cells gs ts all = total_by-agree amount_borne (λ t. amount_at cells (tag_handle gs t)) ts (λ k d l. borne (read cells (tag_handle gs (get_or ts k d))) (get_or ts k d) (ap (λ (m : Memory). m.payload) (all k d l)))
+pub sum_all : (cells : List (Cell Row)) (ts : List Tag) → All (Read cells) ts → total_by amount_borne ts ≡ total_by (λ t. amount_at cells (tag_handle t)) ts
+sum_all cells ts all = total_by-agree amount_borne (λ t. amount_at cells (tag_handle t)) ts (λ k d l. borne (read cells (tag_handle (get_or ts k d))) (get_or ts k d) (ap (λ (m : Memory). m.payload) (all k d l)))
   where
     borne : (o : Option Row) (t : Tag) → t.payload ≡ payload_of_row o → amount_borne t ≡ amount_of_row o
     borne None t is = rw is refl

@@ -17,13 +17,13 @@ use Rattle.crack_row.specs.declared.Payload.{Payload}
 use Rattle.crack_column.specs.declared.tag.Label.{Label}
 use Rattle.crack_column.specs.declared.tag.Tag.{Tag}
 use Rattle.crack_arena.specs.Memories.{Memory, nothing, memory_at, Remembers}
-use Rattle.crack_column.specs.Tickets.{memory_of, tag_handle, handles_in, remembered_in}
-use Rattle.crack_column.specs.Keeps.{remembered_key, unread_in, AreDrawn}
+use Rattle.crack_column.specs.Places.{memory_of, tag_handle, handles_in, remembered_in}
+use Rattle.crack_column.specs.Keeps.{remembered_key, unread_in}
 use Rattle.crack_column.specs.Inside.{no_tag, forgotten, Knows, Read, SiftsTags}
 use Rattle.crack_column.specs.Labels.{tags_of}
 use Rattle.crack_column.specs.Sifts.{turned_once, one_if_some, below_bound, queued, made_way}
 use Rattle.crack_column.proofs.LabelLaws.{between-tags_of, replaced-tags_of, part_put}
-use Rattle.crack_column.proofs.TicketLaws.{Reorders, standing, over_tags, stretch_of, Knows-Remembers, handle_in, memory_in, length-in, length-remembered_in}
+use Rattle.crack_column.proofs.PlaceLaws.{Reorders, standing, over_tags, stretch_of, Knows-Remembers, handle_in, memory_in, length-in, length-remembered_in}
 
 -- The same rows
 
@@ -165,7 +165,7 @@ SiftsTags-parts bound start from to ls ls' ps ps' n m below moved order behind w
 
 -- The column
 
-module _ (gs : List ℕ) (bound start from to : ℕ) (ts ts' : List Tag) (below moved len : ℕ) (are : AreDrawn gs ts len) (order : start ≤ from) (behind : from ≤ to) (end : to ≤ len) (sifts : SiftsTags bound start from to ts ts' below moved) where
+module _ (bound start from to : ℕ) (ts ts' : List Tag) (below moved len : ℕ) (fits : len ≤ length ts) (order : start ≤ from) (behind : from ≤ to) (end : to ≤ len) (sifts : SiftsTags bound start from to ts ts' below moved) where
   abbrev pub came : List Tag
   came = between from to ts
 
@@ -185,20 +185,20 @@ module _ (gs : List ℕ) (bound start from to : ℕ) (ts ts' : List Tag) (below 
   reordered = record { stretch = now; are = sifts.are; kept = IsPermutation-map forgotten (between start to ts) now permuted; fewer = fewer }
 
   pub few : below ≤ to - from
-  few = omega (arith, sifts.below_is, below-few remembered_key bound came, length-between ts from to (omega (arith, are.within)))
+  few = omega (arith, sifts.below_is, below-few remembered_key bound came, length-between ts from to (omega (arith, fits)))
 
-  pub Remembers-sifted : (cells : List (Cell Row)) → Remembers cells (handles_in gs ts len) (remembered_in ts len) → Remembers cells (handles_in gs ts' len) (remembered_in ts' len)
+  pub Remembers-sifted : (cells : List (Cell Row)) → Remembers cells (handles_in ts len) (remembered_in ts len) → Remembers cells (handles_in ts' len) (remembered_in ts' len)
   Remembers-sifted cells remembers =
-      let there = standing gs start to ts ts' 0 len are (omega arith) end reordered in
-      let within : len ≤ length ts' = omega (arith, there.len, are.within) in
-      let known = All-permutation (Knows cells gs) (between start to ts) now permuted (Knows-Remembers cells gs ts len start to are.within end remembers) in
-      let long : length now ≡ to - start = length_permutation (between start to ts) now permuted ∙ length-between ts start to (omega (arith, are.within)) in
-      let old : (k : ℕ) → k < len → Knows cells gs (get_or ts k no_tag) = λ k l. rw (memory_in ts len k nothing are.within l, handle_in gs ts len k no_handle are.within l) at (remembers.right k no_handle (omega (arith, length-in gs ts len are.within))) in
+      let there = standing start to ts ts' 0 len fits (omega arith) end reordered in
+      let within : len ≤ length ts' = omega (arith, there.len, fits) in
+      let known = All-permutation (Knows cells) (between start to ts) now permuted (Knows-Remembers cells ts len start to fits end remembers) in
+      let long : length now ≡ to - start = length_permutation (between start to ts) now permuted ∙ length-between ts start to (omega (arith, fits)) in
+      let old : (k : ℕ) → k < len → Knows cells (get_or ts k no_tag) = λ k l. rw (memory_in ts len k nothing fits l, handle_in ts len k no_handle fits l) at (remembers.right k no_handle (omega (arith, length-in ts len fits))) in
       record {
-        beside = length-remembered_in ts' len within ∙ sym (length-in gs ts' len within);
+        beside = length-remembered_in ts' len within ∙ sym (length-in ts' len within);
         right = λ k d l.
-            let inside : k < len = omega (arith, length-in gs ts' len within) in
-            rw (memory_in ts' len k nothing within inside, handle_in gs ts' len k d within inside) (elim (cases_lt k start) [
+            let inside : k < len = omega (arith, length-in ts' len within) in
+            rw (memory_in ts' len k nothing within inside, handle_in ts' len k d within inside) (elim (cases_lt k start) [
               | inl b ↦ rw (there.before k no_tag b) (old k inside)
               | inr g ↦ elim (cases_lt k to) [
                 | inl m ↦ rw (there.inside k no_tag g m) (known (k - start) no_tag (omega (arith, long)))
@@ -208,59 +208,59 @@ module _ (gs : List ℕ) (bound start from to : ℕ) (ts ts' : List Tag) (below 
       }
 
   -- with cells whose rows the incoming handles read
-  module _ (cells : List (Cell Row)) (read : between from to (remembered_in ts len) ≡ map (memory_at cells) (between from to (handles_in gs ts len))) where
-    all_read : All (Read cells gs) came
-    all_read = reads came (sym (stretch_of memory_of nothing ts len from to are.within end) ∙ read ∙ ap (map (memory_at cells)) (stretch_of (tag_handle gs) no_handle ts len from to are.within end))
+  module _ (cells : List (Cell Row)) (read : between from to (remembered_in ts len) ≡ map (memory_at cells) (between from to (handles_in ts len))) where
+    all_read : All (Read cells) came
+    all_read = reads came (sym (stretch_of memory_of nothing ts len from to fits end) ∙ read ∙ ap (map (memory_at cells)) (stretch_of tag_handle no_handle ts len from to fits end))
       where
-        reads : (us : List Tag) → map memory_of us ≡ map (memory_at cells) (map (tag_handle gs) us) → All (Read cells gs) us
+        reads : (us : List Tag) → map memory_of us ≡ map (memory_at cells) (map tag_handle us) → All (Read cells) us
         reads us same = λ k d l.
             let one = ap (λ ms. get_or ms k nothing) same in
-            rw (get_or-map memory_of us k d nothing l, get_or-map (memory_at cells) (map (tag_handle gs) us) k no_handle nothing (omega (arith, length-map us (tag_handle gs))), get_or-map (tag_handle gs) us k d no_handle l) at one
+            rw (get_or-map memory_of us k d nothing l, get_or-map (memory_at cells) (map tag_handle us) k no_handle nothing (omega (arith, length-map us tag_handle)), get_or-map tag_handle us k d no_handle l) at one
 
-    same_keys : All (SameKey (tag_handle gs) remembered_key (key_at cells)) came
+    same_keys : All (SameKey tag_handle remembered_key (key_at cells)) came
     same_keys = λ k d l. ap (λ (m : Memory). m.key) (all_read k d l)
 
-    came_is : map (tag_handle gs) came ≡ between from to (handles_in gs ts len)
-    came_is = sym (stretch_of (tag_handle gs) no_handle ts len from to are.within end)
+    came_is : map tag_handle came ≡ between from to (handles_in ts len)
+    came_is = sym (stretch_of tag_handle no_handle ts len from to fits end)
 
-    stood_is : map (tag_handle gs) stood ≡ between start from (handles_in gs ts len)
-    stood_is = sym (stretch_of (tag_handle gs) no_handle ts len start from are.within (omega arith))
+    stood_is : map tag_handle stood ≡ between start from (handles_in ts len)
+    stood_is = sym (stretch_of tag_handle no_handle ts len start from fits (omega arith))
 
-    below_handles : map (tag_handle gs) (below_bound remembered_key bound came) ≡ below_bound (key_at cells) bound (between from to (handles_in gs ts len))
-    below_handles = map-below (tag_handle gs) remembered_key (key_at cells) bound came same_keys ∙ ap (below_bound (key_at cells) bound) came_is
+    below_handles : map tag_handle (below_bound remembered_key bound came) ≡ below_bound (key_at cells) bound (between from to (handles_in ts len))
+    below_handles = map-below tag_handle remembered_key (key_at cells) bound came same_keys ∙ ap (below_bound (key_at cells) bound) came_is
 
-    pub handles-sifted : handles_in gs ts' len ≡ take start (handles_in gs ts len) ++ (below_bound (key_at cells) bound (between from to (handles_in gs ts len)) ++ queued (key_at cells) bound (between from to (handles_in gs ts len)) (between start from (handles_in gs ts len))) ++ drop to (handles_in gs ts len)
+    pub handles-sifted : handles_in ts' len ≡ take start (handles_in ts len) ++ (below_bound (key_at cells) bound (between from to (handles_in ts len)) ++ queued (key_at cells) bound (between from to (handles_in ts len)) (between start from (handles_in ts len))) ++ drop to (handles_in ts len)
     handles-sifted =
-        let left_of = map-queued (tag_handle gs) remembered_key (key_at cells) bound came stood same_keys in
-        let queue : map (tag_handle gs) (queued remembered_key bound came stood) ≡ queued (key_at cells) bound (between from to (handles_in gs ts len)) (between start from (handles_in gs ts len)) = left_of ∙ rw (came_is, stood_is) refl in
-        let middle = map-append (tag_handle gs) (below_bound remembered_key bound came) (queued remembered_key bound came stood) in
-        over_tags gs start to ts ts' 0 len are (omega arith) end reordered (tag_handle gs) no_handle ∙ ap (λ us. take start (handles_in gs ts len) ++ us ++ drop to (handles_in gs ts len)) (middle ∙ rw (below_handles, queue) refl)
+        let left_of = map-queued tag_handle remembered_key (key_at cells) bound came stood same_keys in
+        let queue : map tag_handle (queued remembered_key bound came stood) ≡ queued (key_at cells) bound (between from to (handles_in ts len)) (between start from (handles_in ts len)) = left_of ∙ rw (came_is, stood_is) refl in
+        let middle = map-append tag_handle (below_bound remembered_key bound came) (queued remembered_key bound came stood) in
+        over_tags start to ts ts' 0 len fits (omega arith) end reordered tag_handle no_handle ∙ ap (λ us. take start (handles_in ts len) ++ us ++ drop to (handles_in ts len)) (middle ∙ rw (below_handles, queue) refl)
 
-    pub below-sifted : below ≡ length (below_bound (key_at cells) bound (between from to (handles_in gs ts len)))
-    below-sifted = sifts.below_is ∙ sym (length-map (below_bound remembered_key bound came) (tag_handle gs)) ∙ ap length below_handles
+    pub below-sifted : below ≡ length (below_bound (key_at cells) bound (between from to (handles_in ts len)))
+    below-sifted = sifts.below_is ∙ sym (length-map (below_bound remembered_key bound came) tag_handle) ∙ ap length below_handles
 
-    pub moved-sifted : moved ≡ made_way (key_at cells) bound (between from to (handles_in gs ts len)) (between start from (handles_in gs ts len))
-    moved-sifted = sifts.moved_is ∙ map-made_way (tag_handle gs) remembered_key (key_at cells) bound came stood same_keys ∙ rw (came_is, stood_is) refl
+    pub moved-sifted : moved ≡ made_way (key_at cells) bound (between from to (handles_in ts len)) (between start from (handles_in ts len))
+    moved-sifted = sifts.moved_is ∙ map-made_way tag_handle remembered_key (key_at cells) bound came stood same_keys ∙ rw (came_is, stood_is) refl
 
     -- the first of them now
     first_of : {X : Type 0} (f : Tag → X) (d : X) → between start (start + below) (map f (take len ts')) ≡ map f (below_bound remembered_key bound came)
     first_of {X = X} f d =
-        let there = over_tags gs start to ts ts' 0 len are (omega arith) end reordered f d in
+        let there = over_tags start to ts ts' 0 len fits (omega arith) end reordered f d in
         let front : List X = take start (map f (take len ts)) in
         let lower : List X = map f (below_bound remembered_key bound came) in
         let rest : List X = map f (queued remembered_key bound came stood) in
         let back : List X = drop to (map f (take len ts)) in
-        let long : length front ≡ start = length-take-le start (map f (take len ts)) (omega (arith, length-map (take len ts) f, length-take-le len ts are.within)) in
+        let long : length front ≡ start = length-take-le start (map f (take len ts)) (omega (arith, length-map (take len ts) f, length-take-le len ts fits)) in
         let count : start + below - start ≡ length lower = omega (arith, sifts.below_is, length-map (below_bound remembered_key bound came) f) in
         let split : front ++ map f now ++ back ≡ front ++ (lower ++ (rest ++ back)) = append_assoc front (map f now) back ∙ ap (λ us. front ++ us) (ap (λ us. us ++ back) (map-append f (below_bound remembered_key bound came) (queued remembered_key bound came stood)) ∙ append_assoc lower rest back) in
         let behind_front : drop start (front ++ (lower ++ (rest ++ back))) ≡ lower ++ (rest ++ back) = ap (λ n. drop n (front ++ (lower ++ (rest ++ back)))) (sym long) ∙ drop-append_seam front (lower ++ (rest ++ back)) in
         ap (between start (start + below)) (there ∙ split) ∙ ap (take (start + below - start)) behind_front ∙ ap (λ n. take n (lower ++ (rest ++ back))) count ∙ take-append-le (length lower) lower (rest ++ back) (omega arith) ∙ take_all (length lower) lower (omega arith)
 
-    pub read-sifted : between start (start + below) (remembered_in ts' len) ≡ map (memory_at cells) (between start (start + below) (handles_in gs ts' len))
+    pub read-sifted : between start (start + below) (remembered_in ts' len) ≡ map (memory_at cells) (between start (start + below) (handles_in ts' len))
     read-sifted =
         let lower : List Tag = below_bound remembered_key bound came in
-        first_of memory_of nothing ∙ as_read lower (All-filter (λ t. ltb (remembered_key t) bound) (Read cells gs) came all_read) ∙ ap (map (memory_at cells)) (sym (first_of (tag_handle gs) no_handle))
+        first_of memory_of nothing ∙ as_read lower (All-filter (λ t. ltb (remembered_key t) bound) (Read cells) came all_read) ∙ ap (map (memory_at cells)) (sym (first_of tag_handle no_handle))
       where
-        as_read : (us : List Tag) → All (Read cells gs) us → map memory_of us ≡ map (memory_at cells) (map (tag_handle gs) us)
+        as_read : (us : List Tag) → All (Read cells) us → map memory_of us ≡ map (memory_at cells) (map tag_handle us)
         as_read [] all = refl
-        as_read (u ∷ us) all = rw (All-head (Read cells gs) u us all, as_read us (All-tail (Read cells gs) u us all)) refl
+        as_read (u ∷ us) all = rw (All-head (Read cells) u us all, as_read us (All-tail (Read cells) u us all)) refl

@@ -1,15 +1,15 @@
 -- What private clauses alone cite.
-use Rattle.std.specs.Prelude.{◌≡◌, ℕ, ◌+◌, ◌-◌, ◌%◌, ◌<◌, ◌≤◌, List, ◌++◌, length, map, take, drop, All, cond, nat_lt, Option, slice_index, slice_index_or, slice_set}
+use Rattle.std.specs.Prelude.{◌≡◌, ℕ, ◌+◌, ◌-◌, ◌≤◌, List, ◌∷◌, ◌++◌, length, map, take, drop, All, cond, nat_lt, Option, slice_index_or, slice_set}
 use Rattle.std.specs.List.{between}
 use Rattle.std.specs.List.Sorted.{IsPermutation}
-use Rattle.crack_arena.specs.Arena.{Cell, Handle}
+use Rattle.crack_arena.specs.Arena.{Cell, Handle, no_handle}
 use Rattle.crack_arena.specs.Rows.{no_payload, unknown}
 use Rattle.crack_row.specs.declared.Row.{Row}
 use Rattle.crack_column.specs.declared.tag.Label.{Label}
 use Rattle.crack_column.specs.declared.tag.Tag.{Tag}
 use Rattle.crack_arena.specs.Memories.{Memory, memory_at, Agrees}
 use Rattle.crack_column.specs.Column.{IsDividedAt}
-use Rattle.crack_column.specs.Tickets.{memory_of, tag_handle}
+use Rattle.crack_column.specs.Places.{memory_of, tag_handle}
 use Rattle.crack_column.specs.Keeps.{remembered_key, unread_in}
 use Rattle.crack_column.specs.Sifts.{below_bound, queued, made_way}
 use Rattle.crack_column.specs.Drains.{drained_once, drawn_once, is_under, doomed_key, doomed_handle}
@@ -17,23 +17,27 @@ use Rattle.crack_column.specs.declared.draining.Doomed.{Doomed}
 use Rattle.crack_row.specs.declared.InnerBound.{InnerBound}
 
 -- what the tag remembers agrees with its handle's row
-abbrev pub Knows : List (Cell Row) → List ℕ → Tag → Type 0
-Knows cells generations t = Agrees cells (tag_handle generations t) (memory_of t)
+abbrev pub Knows : List (Cell Row) → Tag → Type 0
+Knows cells t = Agrees cells (tag_handle t) (memory_of t)
 
 -- the tag has the key and the payload of its handle's row
-abbrev pub Read : List (Cell Row) → List ℕ → Tag → Type 0
-Read cells generations t = memory_of t ≡ memory_at cells (tag_handle generations t)
+abbrev pub Read : List (Cell Row) → Tag → Type 0
+Read cells t = memory_of t ≡ memory_at cells (tag_handle t)
 
--- the tag of a ticket, a handle, and what is remembered about the handle's row
-abbrev pub tag_for : ℕ → Handle → Memory → Tag
-tag_for ticket h m = record { key = m.key; ticket = ticket; payload = m.payload; slot = h.slot }
+-- the tag of a handle, and of what is remembered about the handle's row
+abbrev pub tag_for : Handle → Memory → Tag
+tag_for h m = record { key = m.key; payload = m.payload; handle = h }
 
 -- the tag without what it remembers
 abbrev pub forgotten : Tag → Tag
 forgotten t = record t { key = unknown; payload = no_payload }
 
 abbrev pub no_tag : Tag
-no_tag = record { key = 0; ticket = 0; payload = no_payload; slot = 0 }
+no_tag = record { key = 0; payload = no_payload; handle = no_handle }
+
+-- the tag is at the place, and the others are where they were; at the end of the list it comes after them
+abbrev pub put_at : List Tag → ℕ → Tag → List Tag
+put_at ts place t = take place ts ++ t ∷ drop (place + 1) ts
 
 -- the tag at `low` moves into the gap, and the new tag takes its place
 abbrev pub shifted : List Tag → ℕ → ℕ → Tag → List Tag
@@ -45,22 +49,13 @@ turned ts gap upper place t =
     let filled = slice_set ts gap (slice_index_or ts upper no_tag) in
     slice_set (slice_set filled upper (slice_index_or filled place no_tag)) place t
 
--- the handle is stored at the place under the ticket there, with what is remembered about its row; the old handle
--- is returned with what was remembered
-pub record Kept (generations : List ℕ) (tags : List Tag) (place : ℕ) (handle : Handle) (memory : Memory) (generations' : List ℕ) (tags' : List Tag) (out : Handle) (known : Memory) : Type 0 where
-  pub generations_are : generations' ≡ slice_set generations (slice_index_or tags place no_tag).ticket handle.generation
-  pub tags_are : tags' ≡ slice_set tags place (tag_for (slice_index_or tags place no_tag).ticket handle memory)
-  pub out_is : out ≡ tag_handle generations (slice_index_or tags place no_tag)
-  pub known_is : known ≡ memory_of (slice_index_or tags place no_tag)
-  pub fits : handle.slot < 16777216
-
 -- the tags from `from` up to `to` are reordered so that the bound divides them at `place`, and their rows are read,
 -- `learned` of which were unknown; all other tags are unchanged
-pub record Turns (cells : List (Cell Row)) (generations : List ℕ) (bound from to : ℕ) (tags tags' : List Tag) (place learned : ℕ) : Type 0 where
+pub record Turns (cells : List (Cell Row)) (bound from to : ℕ) (tags tags' : List Tag) (place learned : ℕ) : Type 0 where
   pub stretch : List Tag
   pub are : tags' ≡ take from tags ++ stretch ++ drop to tags
   pub kept : IsPermutation (map forgotten (between from to tags)) (map forgotten stretch)
-  pub read : All (Read cells generations) stretch
+  pub read : All (Read cells) stretch
   pub low : from ≤ place
   pub high : place ≤ to
   pub divided : IsDividedAt bound (map remembered_key stretch) (place - from)
@@ -68,11 +63,11 @@ pub record Turns (cells : List (Cell Row)) (generations : List ℕ) (bound from 
 
 -- the label of a tag
 abbrev pub label_of : Tag → Label
-label_of t = record { key = t.key; ticket = t.ticket; slot = t.slot }
+label_of t = record { key = t.key; handle = t.handle }
 
--- the handle of the label's slot and of the generation under its ticket
-abbrev pub label_handle : List ℕ → Label → Handle
-label_handle generations l = record { slot = l.slot % 16777216; generation = slice_index generations l.ticket }
+-- the handle of a label
+abbrev pub label_handle : Label → Handle
+label_handle l = l.handle
 
 -- the tags from `from` up to `to` were sifted through those from `start` up to `from`: `below` of them are below
 -- the bound, and other tags moved `moved` times

@@ -6,7 +6,7 @@ use Rattle.crack_column.specs.declared.tag.Tag.{Tag}
 
 -- the tag of this label and this payload
 abbrev pub tag_of : Label → Payload → Tag
-tag_of l payload = record { key = l.key; ticket = l.ticket; payload = payload; slot = l.slot }
+tag_of l payload = record { key = l.key; payload = payload; handle = l.handle }
 
 -- the tags of labels and payloads, paired place by place
 abbrev pub tags_of : List Label → List Payload → List Tag

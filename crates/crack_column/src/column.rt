@@ -1,7 +1,7 @@
 //! The cracker column, and the cracks that divide a part of it.
-ghost use Rattle.std.specs.Prelude.{◌≡◌, ◌+◌, ◌-◌, ◌<◌, ◌≤◌, ◌^◌, ◌↔◌, List, [], ◌∷◌, ◌++◌, Some, length, vec_len};
-ghost use Rattle.std.specs.Prelude.{slice_get, slice_index_or, slice_set, vec_capacity, IsTrue, OnOk, OnErr, IfErr};
-ghost use Rattle.std.specs.Prelude.{All, MatchOption, take, drop, pos, neg_ℤ, ◌≤ℤ◌, ◌*◌};
+ghost use Rattle.std.specs.Prelude.{◌≡◌, ◌+◌, ◌-◌, ◌<◌, ◌≤◌, ◌^◌, ◌↔◌, List, [], ◌∷◌, ◌++◌, Some, length};
+ghost use Rattle.std.specs.Prelude.{slice_get, slice_index_or, slice_set, IsTrue, OnOk, OnErr, IfErr};
+ghost use Rattle.std.specs.Prelude.{MatchOption, take, drop, pos, neg_ℤ, ◌≤ℤ◌, ◌*◌};
 ghost use Rattle.std.specs.List.{between};
 ghost use Rattle.crack_arena.specs.Arena.{Cell, StandsAt, IsFirstAt, IsAbsent, no_handle};
 ghost use Rattle.crack_arena.specs.Rows.{amount_at, key_at};
@@ -9,28 +9,22 @@ ghost use Rattle.crack_row.specs.Rows.{total_by, farthest_amount};
 ghost use Rattle.crack_arena.specs.Memories.{nothing, Remembers, Agrees};
 ghost use Rattle.crack_column.specs.Column.{StillRemembers, StillRemembersWith, Cracks};
 ghost use Rattle.crack_column.specs.Column.{first_aside, with_aside, exchanged_aside, appended_aside, popped_aside};
-ghost use Rattle.crack_column.specs.Keeps.{AreDrawn, unread_in};
 ghost use Rattle.crack_column.specs.Sifts.{AreRead, Sifts};
-ghost use Rattle.crack_column.specs.Tickets.{handles_in, room_in, aside_in};
-ghost use Rattle.crack_column.specs.Inside.{Knows, Turns, Kept, tag_for};
 
-use crate::tag::{SLOTS, Tag};
+use crate::tag::Tag;
 use crate::tags::Tags;
-use crack_arena::{Arena, Generation, Handle, Remembered, Slot};
+use crack_arena::{Arena, Handle, Remembered};
 use crack_row::{InnerBound, Key, Refusal, Row};
 use std::alloc::Global;
 use std::marker::Model;
 use std::mem;
 
-/// Handles in cracked order. Each place has a tag: the row's key and payload if the row is known, the handle's
-/// slot, and the ticket under which the handle's generation is stored, so a crack exchanges only tags. Payloads are
-/// in a list of their own, so a sum of known rows reads nothing else. A ticket has 32 bits, so there are at most
-/// `MOST_PLACES` places. A row is read from the arena at most once, unless it has the greatest key.
+/// Handles in cracked order. Each place has a tag: the row's handle, and its key and payload if the row is known.
+/// Payloads are in a list of their own, so a sum of known rows reads nothing else. There are at most `MOST_PLACES`
+/// places. A row is read from the arena at most once, unless it has the greatest key.
 #[derive(Drop)]
 pub struct CrackerColumn {
-    /// By ticket.
-    pub(crate) generations: Vec<Generation>,
-    /// In cracked order. Those from `len` on keep their tickets for later rows.
+    /// In cracked order. Those from `len` on are aside.
     pub(crate) tags: Tags,
     pub(crate) len: usize,
     /// The number of tags before `len` whose rows are unknown.
@@ -38,21 +32,21 @@ pub struct CrackerColumn {
 }
 
 impl Model for CrackerColumn {
-    ghost use Rattle.std.specs.Prelude.{drop, length, map, take, vec_capacity};
+    ghost use Rattle.std.specs.Prelude.{length};
     ghost use Rattle.crack_column.specs.Column.{Column};
     ghost use Rattle.crack_column.specs.Keeps.{IsKept};
-    ghost use Rattle.crack_column.specs.Tickets.{tag_handle, memory_of, room_in, aside_of};
+    ghost use Rattle.crack_column.specs.Places.{handles_in, remembered_in, room_in, aside_in};
 
     ghost Value = { Column };
 
     ghost view = { λ c. record {
-      handles = map (tag_handle c.generations.items) (take c.len c.tags.items);
-      remembered = map memory_of (take c.len c.tags.items);
-      room = room_in (length c.tags.items) (vec_capacity c.generations) c.tags.capacity c.len;
-      aside = map (aside_of c.generations.items) (drop c.len c.tags.items);
+      handles = handles_in c.tags.items c.len;
+      remembered = remembered_in c.tags.items c.len;
+      room = room_in (length c.tags.items) c.tags.capacity c.len;
+      aside = aside_in c.tags.items c.len;
     } };
 
-    ghost invariant = { λ c. IsKept c.generations.items c.tags.items c.len c.unread };
+    ghost invariant = { λ c. IsKept c.tags.items c.len c.unread };
 }
 
 impl CrackerColumn {
@@ -65,7 +59,6 @@ impl CrackerColumn {
         ensures right { (cells : List (Cell Row)) → Remembers cells result.handles result.remembered }
     {
         CrackerColumn {
-            generations: Vec::new(alloc),
             tags: Tags::new(alloc),
             len: 0,
             unread: 0,
@@ -76,7 +69,7 @@ impl CrackerColumn {
     pub fn take(&mut self) -> CrackerColumn
         ensures { result ≡ self.old }
     {
-        let alloc = *self.generations.allocator();
+        let alloc = self.tags.allocator();
         mem::replace(self, CrackerColumn::new(alloc))
     }
 
@@ -100,23 +93,22 @@ impl CrackerColumn {
         requires { place < length self.now.handles }
         ensures { StandsAt self.now.handles place result }
     {
-        self.tags.label(place).handle(&self.generations)
+        self.tags.label(place).handle
     }
 
-    /// The slot of the handle at the place. O(1). Reads nothing but that place.
+    /// The slot of the handle at the place. O(1).
     pub fn slot_at(&self, place: usize) -> u32
         requires { place < length self.now.handles }
         ensures { result ≡ (slice_index_or self.now.handles place no_handle).slot }
     {
-        self.tags.label(place).slot % SLOTS
+        self.at(place).slot()
     }
 
     /// The first place of the handle, if it is in the column. O(n).
     pub fn place_of(&self, handle: Handle<Row>) -> Option<usize>
         ensures { MatchOption result (IsAbsent self.now.handles handle) (IsFirstAt self.now.handles handle) }
     {
-        self.tags
-            .find_between(0, self.len, &self.generations, handle)
+        self.tags.find_between(0, self.len, handle)
     }
 
     /// The first place of the handle in `from..to`, if it is there. O(to - from).
@@ -127,7 +119,7 @@ impl CrackerColumn {
             (IsAbsent (between from to self.now.handles) handle)
             (λ place. (from ≤ place) × IsFirstAt (between from to self.now.handles) handle (place - from)) }
     {
-        match self.tags.find_between(from, to, &self.generations, handle) {
+        match self.tags.find_between(from, to, handle) {
             Some(place) => Some(from + place),
             None => None,
         }
@@ -144,8 +136,7 @@ impl CrackerColumn {
         ensures most { result ≤ℤ pos ((to - from) * farthest_amount) }
         ensures small { (neg_ℤ (pos (2 ^ 95)) ≤ℤ result) × (result ≤ℤ pos (2 ^ 95)) }
     {
-        self.tags
-            .sum_between(from, to, self.unread, &self.generations, arena)
+        self.tags.sum_between(from, to, self.unread, arena)
     }
 
     /// Makes room for this many more handles. The handles of all cells of an arena fit. Refused with `OutOfMemory`
@@ -160,13 +151,7 @@ impl CrackerColumn {
         ensures remembered { StillRemembers self.old self.new }
     {
         let more = additional.saturating_sub(self.tags.len() - self.len);
-        let before = self.generations.capacity();
-        self.generations.reserve(more)?;
-        if let Err(refusal) = self.tags.reserve(more) {
-            self.generations.shrink_to(before);
-            return Err(refusal);
-        }
-        Ok(())
+        self.tags.reserve(more)
     }
 
     /// Appends the handle, whose row is unknown. There must be room. O(1).
@@ -198,20 +183,6 @@ impl CrackerColumn {
         self.append_aside();
     }
 
-    /// Replaces the handle at the place by this one, whose row is unknown, and returns the old one. O(1).
-    pub fn swap_in(&mut self, place: usize, handle: Handle<Row>) -> Handle<Row>
-        requires { place < length self.old.handles }
-        ensures result { slice_get self.old.handles place ≡ Some result }
-        ensures after { self.new ≡ record self.old {
-          handles = slice_set self.old.handles place handle;
-          remembered = slice_set self.old.remembered place nothing;
-        } }
-        ensures remembered { StillRemembers self.old self.new }
-    {
-        self.swap_in_remembered(place, handle, Remembered::nothing())
-            .0
-    }
-
     /// Replaces the handle at the place, and what is remembered about its row. Returns the old handle and what was
     /// remembered about its row. O(1).
     pub fn swap_in_remembered(
@@ -229,16 +200,11 @@ impl CrackerColumn {
         } }
         ensures remembered { StillRemembersWith handle remembered self.old self.new }
     {
+        let replaced = self.tags.get(place);
+        self.tags.set(place, Tag::new(handle, remembered));
         self.unread += remembered.unread();
-        let (out, known) = keep(
-            &mut self.generations,
-            &mut self.tags,
-            place,
-            handle,
-            remembered,
-        );
-        self.unread -= known.unread();
-        (out, known)
+        self.unread -= replaced.unread();
+        (replaced.handle, replaced.remembered())
     }
 
     /// Removes the last handle, and returns it. O(1).
@@ -283,13 +249,7 @@ impl CrackerColumn {
         requires { 0 < self.old.room }
         ensures { self.new ≡ with_aside (record { handle = handle; memory = remembered }) self.old }
     {
-        keep_behind(
-            &mut self.generations,
-            &mut self.tags,
-            self.len,
-            handle,
-            remembered,
-        );
+        self.tags.put(self.len, Tag::new(handle, remembered));
     }
 
     /// Removes the last handle from the column, and sets it aside. O(1). Reads no row.
@@ -312,8 +272,7 @@ impl CrackerColumn {
         self.len += 1;
     }
 
-    /// Exchanges the handle that is aside with the one at the place. O(1). Exchanges two tags with their tickets,
-    /// and reads no generation.
+    /// Exchanges the handle that is aside with the one at the place. O(1).
     pub fn exchange(&mut self, place: usize)
         requires within { place < length self.old.handles }
         requires aside { 0 < length self.old.aside }
@@ -334,15 +293,15 @@ impl CrackerColumn {
         requires { 0 < length self.now.aside }
         ensures { result ≡ (first_aside self.now).handle }
     {
-        self.tags.label(self.len).handle(&self.generations)
+        self.tags.label(self.len).handle
     }
 
-    /// The slot of the handle that is aside. O(1). Reads no generation.
+    /// The slot of the handle that is aside. O(1).
     pub fn aside_slot(&self) -> u32
         requires { 0 < length self.now.aside }
         ensures { result ≡ (first_aside self.now).handle.slot }
     {
-        self.tags.label(self.len).slot % SLOTS
+        self.aside().slot()
     }
 
     /// What is remembered about the row of the handle that is aside. O(1).
@@ -360,7 +319,7 @@ impl CrackerColumn {
         requires remembered { Remembers arena.now.cells self.now.handles self.now.remembered }
         ensures { result.0 ≡ key_at arena.now.cells (slice_index_or self.now.handles place no_handle) }
     {
-        self.tags.get(place).key(&self.generations, arena)
+        self.tags.get(place).key(arena)
     }
 
     /// The key of the row that is aside. O(1). The arena is read only if the row is unknown.
@@ -369,7 +328,7 @@ impl CrackerColumn {
         requires known { Agrees arena.now.cells (first_aside self.now).handle (first_aside self.now).memory }
         ensures { result.0 ≡ key_at arena.now.cells (first_aside self.now).handle }
     {
-        self.tags.get(self.len).key(&self.generations, arena)
+        self.tags.get(self.len).key(arena)
     }
 
     /// Cracks in two: reorders the rows at the places `from..to` so that those below the bound come first, and
@@ -392,9 +351,7 @@ impl CrackerColumn {
         ensures aside { self.new.aside ≡ self.old.aside }
         ensures remembered { Remembers arena.now.cells self.new.handles self.new.remembered }
     {
-        let (place, learned) = self
-            .tags
-            .crack_between(from, to, self.unread, &self.generations, bound, arena);
+        let (place, learned) = self.tags.crack_between(from, to, self.unread, bound, arena);
         self.unread -= learned;
         place
     }
@@ -426,7 +383,7 @@ impl CrackerColumn {
     {
         let (places, learned) = self
             .tags
-            .crack_between_three(from, to, self.unread, &self.generations, low, high, arena);
+            .crack_between_three(from, to, self.unread, low, high, arena);
         self.unread -= learned;
         places
     }
@@ -456,79 +413,4 @@ impl CrackerColumn {
     {
         self.tags.sift_between(start, from, to, bound.number())
     }
-}
-
-/// Stores the handle at the place under the ticket there, and returns the handle that was stored there.
-fn keep(
-    generations: &mut Vec<Generation>,
-    tags: &mut Tags,
-    place: usize,
-    handle: Handle<Row>,
-    remembered: Remembered,
-) -> (Handle<Row>, Remembered)
-    requires within { place < length tags.old.items }
-    requires drawn { All (λ t. t.ticket < vec_len generations.old) tags.old.items }
-    ensures kept { Kept generations.old.items tags.old.items place handle remembered generations.new.items
-        tags.new.items result.0 result.1 }
-    ensures capacities { (vec_capacity generations.new ≡ vec_capacity generations.old) ×
-        (tags.new.capacity ≡ tags.old.capacity) }
-{
-    let here = tags.get(place);
-    tags.set(place, Tag::new(here.ticket, handle, remembered));
-    let generation = mem::replace(
-        &mut generations[here.ticket as usize],
-        handle.generation_part(),
-    );
-    (
-        Handle::new(Slot::lowest(here.slot), generation),
-        here.remembered(),
-    )
-}
-
-/// Stores the handle after the last place, under the ticket there, or under a new one if there is none.
-fn keep_behind(
-    generations: &mut Vec<Generation>,
-    tags: &mut Tags,
-    len: usize,
-    handle: Handle<Row>,
-    remembered: Remembered,
-)
-    requires are { AreDrawn generations.old.items tags.old.items len }
-    requires room { 0 < room_in (length tags.old.items) (vec_capacity generations.old) tags.old.capacity len }
-    ensures are { AreDrawn generations.new.items tags.new.items len }
-    ensures handles { handles_in generations.new.items tags.new.items len ≡ handles_in generations.old.items
-        tags.old.items len }
-    ensures first { take len tags.new.items ≡ take len tags.old.items }
-    ensures aside { aside_in generations.new.items tags.new.items len
-        ≡ record { handle = handle; memory = remembered } ∷ drop 1 (aside_in generations.old.items tags.old.items len) }
-    ensures room { room_in (length tags.new.items) (vec_capacity generations.new) tags.new.capacity len
-        ≡ room_in (length tags.old.items) (vec_capacity generations.old) tags.old.capacity len }
-{
-    if len < tags.len() {
-        keep(generations, tags, len, handle, remembered);
-    } else {
-        draw(generations, tags, handle, remembered);
-    }
-}
-
-/// Stores the handle under a new ticket, with a tag after all others.
-fn draw(
-    generations: &mut Vec<Generation>,
-    tags: &mut Tags,
-    handle: Handle<Row>,
-    remembered: Remembered,
-)
-    requires beside { length tags.old.items ≡ vec_len generations.old }
-    requires few { length tags.old.items < 2 ^ 32 }
-    requires generation_room { vec_len generations.old < vec_capacity generations.old }
-    requires tag_room { length tags.old.items < tags.old.capacity }
-    ensures generations { generations.new.items ≡ generations.old.items ++ handle.generation ∷ [] }
-    ensures tags { tags.new.items ≡ tags.old.items ++ tag_for (length generations.old.items) handle remembered ∷ [] }
-    ensures fits { handle.slot < 16777216 }
-    ensures capacities { (vec_capacity generations.new ≡ vec_capacity generations.old) ×
-        (tags.new.capacity ≡ tags.old.capacity) }
-{
-    let ticket = generations.len() as u32;
-    generations.push_reserved(handle.generation_part());
-    tags.push_reserved(Tag::new(ticket, handle, remembered));
 }

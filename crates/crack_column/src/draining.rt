@@ -102,7 +102,7 @@ impl CrackerColumn {
         }
     }
 
-    /// Exchanges the rows at two places. O(1). Reads no generation.
+    /// Exchanges the rows at two places. O(1).
     #[inline]
     pub fn swap(&mut self, one: usize, other: usize)
         requires one { one < length self.old.handles }

@@ -3,16 +3,15 @@ ghost use Rattle.std.specs.Prelude.{◌≡◌, ◌<◌, length};
 ghost use Rattle.crack_column.specs.Column.{first_aside, exchanged_aside};
 
 use crate::CrackerColumn;
-use crate::tag::{SLOTS, Tag};
+use crate::tag::Tag;
 use crate::tags::Tags;
-use crack_arena::{Generation, Remembered};
+use crack_arena::Remembered;
 use std::marker::Model;
 
 /// A column that holds the tag of its row aside in a field, the hand, for a walk that exchanges it at place after
 /// place: an exchange reads and writes only the place. Contracts see the column.
 #[derive(Drop)]
 pub struct HeldColumn {
-    generations: Vec<Generation>,
     tags: Tags,
     len: usize,
     /// The number of tags whose rows are unknown, including the tag in hand.
@@ -22,22 +21,22 @@ pub struct HeldColumn {
 }
 
 impl Model for HeldColumn {
-    ghost use Rattle.std.specs.Prelude.{length, vec_capacity};
+    ghost use Rattle.std.specs.Prelude.{length};
     ghost use Rattle.crack_column.specs.Column.{Column};
-    ghost use Rattle.crack_column.specs.Tickets.{handles_in, remembered_in, room_in, aside_in};
+    ghost use Rattle.crack_column.specs.Places.{handles_in, remembered_in, room_in, aside_in};
     ghost use Rattle.crack_column.specs.Keeps.{IsHeld};
     ghost use Rattle.crack_column.specs.Held.{tags_with};
 
     ghost Value = { Column };
 
     ghost view = { λ c. record {
-      handles = handles_in c.generations.items (tags_with c.tags.items c.len c.hand) c.len;
+      handles = handles_in (tags_with c.tags.items c.len c.hand) c.len;
       remembered = remembered_in (tags_with c.tags.items c.len c.hand) c.len;
-      room = room_in (length c.tags.items) (vec_capacity c.generations) c.tags.capacity c.len;
-      aside = aside_in c.generations.items (tags_with c.tags.items c.len c.hand) c.len;
+      room = room_in (length c.tags.items) c.tags.capacity c.len;
+      aside = aside_in (tags_with c.tags.items c.len c.hand) c.len;
     } };
 
-    ghost invariant = { λ c. IsHeld c.generations.items c.tags.items c.len c.unread c.hand };
+    ghost invariant = { λ c. IsHeld c.tags.items c.len c.unread c.hand };
 }
 
 impl CrackerColumn {
@@ -47,15 +46,9 @@ impl CrackerColumn {
         requires { 0 < length self.old.aside }
         ensures { result ≡ self.old }
     {
-        let CrackerColumn {
-            generations,
-            tags,
-            len,
-            unread,
-        } = self.take();
+        let CrackerColumn { tags, len, unread } = self.take();
         let hand = tags.get(len);
         HeldColumn {
-            generations,
             tags,
             len,
             unread: unread + hand.unread(),
@@ -70,7 +63,6 @@ impl HeldColumn {
         ensures { result ≡ self }
     {
         let HeldColumn {
-            generations,
             mut tags,
             len,
             unread,
@@ -78,7 +70,6 @@ impl HeldColumn {
         } = self;
         tags.set(len, hand);
         CrackerColumn {
-            generations,
             tags,
             len,
             unread: unread - hand.unread(),
@@ -93,12 +84,12 @@ impl HeldColumn {
         self.len
     }
 
-    /// The slot of the handle in hand. O(1). Reads no generation.
+    /// The slot of the handle in hand. O(1).
     #[inline(always)]
     pub fn slot(&self) -> u32
         ensures { result ≡ (first_aside self.now).handle.slot }
     {
-        self.hand.slot % SLOTS
+        self.hand.handle.slot()
     }
 
     /// What is remembered about the row in hand. O(1).

@@ -9,33 +9,27 @@ ghost use Rattle.crack_row.specs.Rows.{amount, total_by, farthest_amount};
 ghost use Rattle.crack_column.specs.declared.TheConstants.{MOST_PLACES};
 ghost use Rattle.crack_column.specs.Column.{IsDividedAt};
 ghost use Rattle.crack_column.specs.Keeps.{remembered_key, unread_in};
-ghost use Rattle.crack_column.specs.Tickets.{memory_of, tag_handle};
+ghost use Rattle.crack_column.specs.Places.{memory_of, tag_handle};
 ghost use Rattle.crack_column.specs.Labels.{tag_of, tags_of};
 ghost use Rattle.crack_column.specs.Sifts.{below_bound, queued, made_way};
 ghost use Rattle.crack_column.specs.Inside.{tag_for, label_of, label_handle, forgotten, shifted, turned, Knows, Read};
 
-use crack_arena::{Arena, Generation, Handle, Remembered, Slot, UNKNOWN_KEY, amount_of, key_of};
+use crack_arena::{Arena, Handle, Remembered, UNKNOWN_KEY, amount_of, key_of};
 use crack_row::{InnerBound, Key, KeyNumber, Payload, Row};
 
-/// The number of slots. A slot has 24 bits; higher bits are ignored.
-pub(crate) const SLOTS: u32 = 16777216;
-
-/// The tag at a place: what is remembered about the row, the slot of its handle, and the ticket under which the
-/// handle's generation is stored.
+/// The tag at a place: the row's handle, and what is remembered about the row.
 #[derive(Clone, Copy)]
 pub(crate) struct Tag {
     pub(crate) key: KeyNumber,
-    pub(crate) ticket: u32,
     pub(crate) payload: Payload,
-    pub(crate) slot: u32,
+    pub(crate) handle: Handle<Row>,
 }
 
-/// A tag without its payload.
+/// A tag without its payload. Takes 16 bytes.
 #[derive(Clone, Copy)]
 pub(crate) struct Label {
     pub(crate) key: KeyNumber,
-    pub(crate) ticket: u32,
-    pub(crate) slot: u32,
+    pub(crate) handle: Handle<Row>,
 }
 
 impl Label {
@@ -46,31 +40,21 @@ impl Label {
     {
         Tag {
             key: self.key,
-            ticket: self.ticket,
             payload,
-            slot: self.slot,
+            handle: self.handle,
         }
-    }
-
-    pub(crate) fn handle(&self, generations: &[Generation]) -> Handle<Row>
-        requires { self.now.ticket < length generations.now }
-        ensures { result ≡ label_handle generations.now self.now }
-    {
-        Handle::new(Slot::lowest(self.slot), generations[self.ticket as usize])
     }
 }
 
 impl Tag {
-    /// Makes the tag of a ticket, a handle, and what is remembered about the handle's row.
-    pub(crate) fn new(ticket: u32, handle: Handle<Row>, remembered: Remembered) -> Tag
-        ensures tag { result ≡ tag_for ticket handle remembered }
-        ensures fits { handle.slot < 16777216 }
+    /// Makes the tag of a handle, and of what is remembered about the handle's row.
+    pub(crate) fn new(handle: Handle<Row>, remembered: Remembered) -> Tag
+        ensures { result ≡ tag_for handle remembered }
     {
         Tag {
             key: remembered.key(),
-            ticket,
             payload: remembered.payload(),
-            slot: handle.slot_part().number(),
+            handle,
         }
     }
 
@@ -87,8 +71,7 @@ impl Tag {
     {
         Label {
             key: self.key,
-            ticket: self.ticket,
-            slot: self.slot,
+            handle: self.handle,
         }
     }
 
@@ -100,27 +83,25 @@ impl Tag {
     }
 
     /// The key of the row, read from the arena only if the row is unknown.
-    pub(crate) fn key(&self, generations: &[Generation], arena: &Arena<Row>) -> Key
-        requires drawn { self.now.ticket < length generations.now }
-        requires known { Knows arena.now.cells generations.now self.now }
-        ensures { result.0 ≡ key_at arena.now.cells (tag_handle generations.now self.now) }
+    pub(crate) fn key(&self, arena: &Arena<Row>) -> Key
+        requires { Knows arena.now.cells self.now }
+        ensures { result.0 ≡ key_at arena.now.cells (tag_handle self.now) }
     {
         if self.key == UNKNOWN_KEY {
-            return key_of(arena, self.label().handle(generations));
+            return key_of(arena, self.handle);
         }
         Key::from_number(self.key)
     }
 
     /// The amount that the row adds to a sum. The arena is read only if the row is unknown.
-    fn amount(&self, generations: &[Generation], arena: &Arena<Row>) -> i128
-        requires drawn { self.now.ticket < length generations.now }
-        requires known { Knows arena.now.cells generations.now self.now }
-        ensures value { result ≡ amount_at arena.now.cells (tag_handle generations.now self.now) }
+    fn amount(&self, arena: &Arena<Row>) -> i128
+        requires { Knows arena.now.cells self.now }
+        ensures value { result ≡ amount_at arena.now.cells (tag_handle self.now) }
         ensures least { neg_ℤ (pos farthest_amount) ≤ℤ result }
         ensures most { result ≤ℤ pos farthest_amount }
     {
         if self.key == UNKNOWN_KEY {
-            return amount_of(arena, self.label().handle(generations));
+            return amount_of(arena, self.handle);
         }
         self.payload.amount()
     }
@@ -132,17 +113,15 @@ pub(crate) fn crack(
     labels: &mut [Label],
     payloads: &mut [Payload],
     unread: usize,
-    generations: &[Generation],
     bound: InnerBound,
     arena: &Arena<Row>,
 ) -> (usize, usize)
     requires beside { length payloads.old ≡ length labels.old }
-    requires drawn { All (λ t. t.ticket < length generations.now) (tags_of labels.old payloads.old) }
-    requires known { All (Knows arena.now.cells generations.now) (tags_of labels.old payloads.old) }
+    requires known { All (Knows arena.now.cells) (tags_of labels.old payloads.old) }
     requires unread { unread_in (tags_of labels.old payloads.old) ≤ unread }
     ensures kept { IsPermutation (map forgotten (tags_of labels.old payloads.old)) (map forgotten
         (tags_of labels.new payloads.new)) }
-    ensures read { All (Read arena.now.cells generations.now) (tags_of labels.new payloads.new) }
+    ensures read { All (Read arena.now.cells) (tags_of labels.new payloads.new) }
     ensures divided { IsDividedAt bound.0 (map remembered_key (tags_of labels.new payloads.new)) result.0 }
     ensures fewer { unread_in (tags_of labels.new payloads.new) + result.1 ≡
         unread_in (tags_of labels.old payloads.old) }
@@ -150,7 +129,7 @@ pub(crate) fn crack(
     if unread == 0 {
         return (divide(labels, payloads, bound.number()), 0);
     }
-    let learned = learn(labels, payloads, generations, arena);
+    let learned = learn(labels, payloads, arena);
     (divide(labels, payloads, bound.number()), learned)
 }
 
@@ -161,19 +140,17 @@ pub(crate) fn crack_three(
     labels: &mut [Label],
     payloads: &mut [Payload],
     unread: usize,
-    generations: &[Generation],
     low: InnerBound,
     high: InnerBound,
     arena: &Arena<Row>,
 ) -> (usize, usize, usize)
     requires beside { length payloads.old ≡ length labels.old }
     requires bounds { low.0 ≤ high.0 }
-    requires drawn { All (λ t. t.ticket < length generations.now) (tags_of labels.old payloads.old) }
-    requires known { All (Knows arena.now.cells generations.now) (tags_of labels.old payloads.old) }
+    requires known { All (Knows arena.now.cells) (tags_of labels.old payloads.old) }
     requires unread { unread_in (tags_of labels.old payloads.old) ≤ unread }
     ensures kept { IsPermutation (map forgotten (tags_of labels.old payloads.old)) (map forgotten
         (tags_of labels.new payloads.new)) }
-    ensures read { All (Read arena.now.cells generations.now) (tags_of labels.new payloads.new) }
+    ensures read { All (Read arena.now.cells) (tags_of labels.new payloads.new) }
     ensures low { IsDividedAt low.0 (map remembered_key (tags_of labels.new payloads.new)) result.0 }
     ensures high { IsDividedAt high.0 (map remembered_key (tags_of labels.new payloads.new)) result.1 }
     ensures order { result.0 ≤ result.1 }
@@ -184,29 +161,23 @@ pub(crate) fn crack_three(
         let (middle, upper) = divide_three(labels, payloads, low.number(), high.number());
         return (middle, upper, 0);
     }
-    let learned = learn(labels, payloads, generations, arena);
+    let learned = learn(labels, payloads, arena);
     let (middle, upper) = divide_three(labels, payloads, low.number(), high.number());
     (middle, upper, learned)
 }
 
 /// Reads each unknown row. Returns how many became known.
-fn learn(
-    labels: &mut [Label],
-    payloads: &mut [Payload],
-    generations: &[Generation],
-    arena: &Arena<Row>,
-) -> usize
+fn learn(labels: &mut [Label], payloads: &mut [Payload], arena: &Arena<Row>) -> usize
     requires beside { length payloads.old ≡ length labels.old }
-    requires drawn { All (λ t. t.ticket < length generations.now) (tags_of labels.old payloads.old) }
-    requires known { All (Knows arena.now.cells generations.now) (tags_of labels.old payloads.old) }
+    requires known { All (Knows arena.now.cells) (tags_of labels.old payloads.old) }
     ensures kept { map forgotten (tags_of labels.new payloads.new) ≡ map forgotten (tags_of labels.old payloads.old) }
-    ensures read { All (Read arena.now.cells generations.now) (tags_of labels.new payloads.new) }
+    ensures read { All (Read arena.now.cells) (tags_of labels.new payloads.new) }
     ensures fewer { unread_in (tags_of labels.new payloads.new) + result ≡ unread_in (tags_of labels.old payloads.old) }
 {
     let mut learned = 0;
     'tags: for i in 0..labels.len() {
         if labels[i].key == UNKNOWN_KEY {
-            let read = Remembered::read(arena, labels[i].handle(generations));
+            let read = Remembered::read(arena, labels[i].handle);
             labels[i] = Label {
                 key: read.key(),
                 ..labels[i]
@@ -238,8 +209,9 @@ fn divide(labels: &mut [Label], payloads: &mut [Payload], bound: KeyNumber) -> u
         shift(labels, payloads, gap, low, next, payload);
         low += below as usize;
     }
+    let below = first.key < bound;
     shift(labels, payloads, last, low, first, first_payload);
-    low + (first.key < bound) as usize
+    low + below as usize
 }
 
 /// Sifts the tags from the place `from` on, in order, through the tags before them: each below the bound is
@@ -370,19 +342,12 @@ fn place_of(is_low: bool, middle: usize, upper: usize) -> usize
 }
 
 /// The sum of the payloads of the tags' rows, of which at most `unread` are unknown.
-pub(crate) fn sum(
-    labels: &[Label],
-    payloads: &[Payload],
-    unread: usize,
-    generations: &[Generation],
-    arena: &Arena<Row>,
-) -> i128
+pub(crate) fn sum(labels: &[Label], payloads: &[Payload], unread: usize, arena: &Arena<Row>) -> i128
     requires beside { length payloads.now ≡ length labels.now }
     requires few { length labels.now ≤ MOST_PLACES }
-    requires drawn { All (λ t. t.ticket < length generations.now) (tags_of labels.now payloads.now) }
-    requires known { All (Knows arena.now.cells generations.now) (tags_of labels.now payloads.now) }
+    requires known { All (Knows arena.now.cells) (tags_of labels.now payloads.now) }
     requires unread { unread_in (tags_of labels.now payloads.now) ≤ unread }
-    ensures value { result ≡ total_by (λ t. amount_at arena.now.cells (tag_handle generations.now t))
+    ensures value { result ≡ total_by (λ t. amount_at arena.now.cells (tag_handle t))
         (tags_of labels.now payloads.now) }
     ensures least { neg_ℤ (pos (length labels.now * farthest_amount)) ≤ℤ result }
     ensures most { result ≤ℤ pos (length labels.now * farthest_amount) }
@@ -391,7 +356,7 @@ pub(crate) fn sum(
     if unread == 0 {
         sum_remembered(payloads)
     } else {
-        sum_read(labels, payloads, generations, arena)
+        sum_read(labels, payloads, arena)
     }
 }
 
@@ -410,44 +375,30 @@ fn sum_remembered(payloads: &[Payload]) -> i128
 }
 
 /// The sum of the payloads of the tags' rows; unknown rows are read from the arena.
-fn sum_read(
-    labels: &[Label],
-    payloads: &[Payload],
-    generations: &[Generation],
-    arena: &Arena<Row>,
-) -> i128
+fn sum_read(labels: &[Label], payloads: &[Payload], arena: &Arena<Row>) -> i128
     requires beside { length payloads.now ≡ length labels.now }
     requires few { length labels.now ≤ MOST_PLACES }
-    requires drawn { All (λ t. t.ticket < length generations.now) (tags_of labels.now payloads.now) }
-    requires known { All (Knows arena.now.cells generations.now) (tags_of labels.now payloads.now) }
-    ensures value { result ≡ total_by (λ t. amount_at arena.now.cells (tag_handle generations.now t))
+    requires known { All (Knows arena.now.cells) (tags_of labels.now payloads.now) }
+    ensures value { result ≡ total_by (λ t. amount_at arena.now.cells (tag_handle t))
         (tags_of labels.now payloads.now) }
     ensures least { neg_ℤ (pos (length labels.now * farthest_amount)) ≤ℤ result }
     ensures most { result ≤ℤ pos (length labels.now * farthest_amount) }
 {
     let mut sum = 0;
     'tags: for i in 0..labels.len() {
-        sum += labels[i]
-            .with_payload(payloads[i])
-            .amount(generations, arena);
+        sum += labels[i].with_payload(payloads[i]).amount(arena);
     }
     sum
 }
 
-/// The place of the first label with this handle. Reads a generation only if the slot is the same.
-pub(crate) fn find(
-    labels: &[Label],
-    generations: &[Generation],
-    handle: Handle<Row>,
-) -> Option<usize>
-    requires drawn { All (λ l. l.ticket < length generations.now) labels.now }
+/// The place of the first label with this handle.
+pub(crate) fn find(labels: &[Label], handle: Handle<Row>) -> Option<usize>
     ensures { MatchOption result
-        (IsAbsent (map (label_handle generations.now) labels.now) handle)
-        (IsFirstAt (map (label_handle generations.now) labels.now) handle) }
+        (IsAbsent (map label_handle labels.now) handle)
+        (IsFirstAt (map label_handle labels.now) handle) }
 {
-    let slot = handle.slot();
     'tags: for i in 0..labels.len() {
-        if labels[i].slot % SLOTS == slot && labels[i].handle(generations) == handle {
+        if labels[i].handle == handle {
             return Some(i);
         }
     }

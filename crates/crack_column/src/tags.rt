@@ -7,11 +7,11 @@ ghost use Rattle.crack_arena.specs.Rows.{amount_at};
 ghost use Rattle.crack_row.specs.Rows.{total_by, farthest_amount};
 ghost use Rattle.crack_column.specs.declared.TheConstants.{MOST_PLACES};
 ghost use Rattle.crack_column.specs.Keeps.{unread_in};
-ghost use Rattle.crack_column.specs.Tickets.{tag_handle};
-ghost use Rattle.crack_column.specs.Inside.{no_tag, label_of, Knows, Turns, SiftsTags};
+ghost use Rattle.crack_column.specs.Places.{tag_handle};
+ghost use Rattle.crack_column.specs.Inside.{no_tag, label_of, put_at, Knows, Turns, SiftsTags};
 
 use crate::tag::{self, Label, Tag};
-use crack_arena::{Arena, Generation, Handle};
+use crack_arena::{Arena, Handle};
 use crack_row::{InnerBound, KeyNumber, Payload, Refusal, Row};
 use std::alloc::Global;
 use std::marker::Model;
@@ -47,6 +47,10 @@ impl Tags {
             labels: Vec::new(alloc),
             payloads: Vec::new(alloc),
         }
+    }
+
+    pub(crate) fn allocator(&self) -> Global {
+        *self.labels.allocator()
     }
 
     #[inline(always)]
@@ -111,6 +115,19 @@ impl Tags {
         self.payloads.push_reserved(tag.payload);
     }
 
+    /// Replaces the tag at the place, or appends it if the place is the end. Then there must be room.
+    pub(crate) fn put(&mut self, place: usize, tag: Tag)
+        requires within { place ≤ length self.old.items }
+        requires room { place ≡ length self.old.items → place < self.old.capacity }
+        ensures { self.new ≡ record self.old { items = put_at self.old.items place tag } }
+    {
+        if place < self.len() {
+            self.set(place, tag);
+        } else {
+            self.push_reserved(tag);
+        }
+    }
+
     /// Cracks the tags at the places `from..to`, of which at most `unread` have unknown rows. Returns the place
     /// that divides them, and how many unknown rows became known.
     pub(crate) fn crack_between(
@@ -118,16 +135,14 @@ impl Tags {
         from: usize,
         to: usize,
         unread: usize,
-        generations: &[Generation],
         bound: InnerBound,
         arena: &Arena<Row>,
     ) -> (usize, usize)
         requires order { from ≤ to }
         requires within { to ≤ length self.old.items }
-        requires drawn { All (λ t. t.ticket < length generations.now) self.old.items }
-        requires known { All (Knows arena.now.cells generations.now) (between from to self.old.items) }
+        requires known { All (Knows arena.now.cells) (between from to self.old.items) }
         requires unread { unread_in (between from to self.old.items) ≤ unread }
-        ensures turned { Turns arena.now.cells generations.now bound.0 from to self.old.items self.new.items
+        ensures turned { Turns arena.now.cells bound.0 from to self.old.items self.new.items
             result.0 result.1 }
         ensures capacity { self.new.capacity ≡ self.old.capacity }
     {
@@ -135,7 +150,6 @@ impl Tags {
             &mut self.labels[from..to],
             &mut self.payloads[from..to],
             unread,
-            generations,
             bound,
             arena,
         );
@@ -149,7 +163,6 @@ impl Tags {
         from: usize,
         to: usize,
         unread: usize,
-        generations: &[Generation],
         low: InnerBound,
         high: InnerBound,
         arena: &Arena<Row>,
@@ -157,12 +170,11 @@ impl Tags {
         requires order { from ≤ to }
         requires within { to ≤ length self.old.items }
         requires bounds { low.0 ≤ high.0 }
-        requires drawn { All (λ t. t.ticket < length generations.now) self.old.items }
-        requires known { All (Knows arena.now.cells generations.now) (between from to self.old.items) }
+        requires known { All (Knows arena.now.cells) (between from to self.old.items) }
         requires unread { unread_in (between from to self.old.items) ≤ unread }
-        ensures low { Turns arena.now.cells generations.now low.0 from to self.old.items self.new.items
+        ensures low { Turns arena.now.cells low.0 from to self.old.items self.new.items
             result.0.0 result.1 }
-        ensures high { Turns arena.now.cells generations.now high.0 from to self.old.items self.new.items
+        ensures high { Turns arena.now.cells high.0 from to self.old.items self.new.items
             result.0.1 result.1 }
         ensures order { result.0.0 ≤ result.0.1 }
         ensures capacity { self.new.capacity ≡ self.old.capacity }
@@ -171,7 +183,6 @@ impl Tags {
             &mut self.labels[from..to],
             &mut self.payloads[from..to],
             unread,
-            generations,
             low,
             high,
             arena,
@@ -208,16 +219,14 @@ impl Tags {
         from: usize,
         to: usize,
         unread: usize,
-        generations: &[Generation],
         arena: &Arena<Row>,
     ) -> i128
         requires order { from ≤ to }
         requires within { to ≤ length self.now.items }
         requires few { to - from ≤ MOST_PLACES }
-        requires drawn { All (λ t. t.ticket < length generations.now) self.now.items }
-        requires known { All (Knows arena.now.cells generations.now) (between from to self.now.items) }
+        requires known { All (Knows arena.now.cells) (between from to self.now.items) }
         requires unread { unread_in (between from to self.now.items) ≤ unread }
-        ensures value { result ≡ total_by (λ t. amount_at arena.now.cells (tag_handle generations.now t))
+        ensures value { result ≡ total_by (λ t. amount_at arena.now.cells (tag_handle t))
             (between from to self.now.items) }
         ensures least { neg_ℤ (pos ((to - from) * farthest_amount)) ≤ℤ result }
         ensures most { result ≤ℤ pos ((to - from) * farthest_amount) }
@@ -227,26 +236,18 @@ impl Tags {
             &self.labels[from..to],
             &self.payloads[from..to],
             unread,
-            generations,
             arena,
         )
     }
 
     /// The first place of the handle in `from..to`, counted from `from`.
-    pub(crate) fn find_between(
-        &self,
-        from: usize,
-        to: usize,
-        generations: &[Generation],
-        handle: Handle<Row>,
-    ) -> Option<usize>
+    pub(crate) fn find_between(&self, from: usize, to: usize, handle: Handle<Row>) -> Option<usize>
         requires order { from ≤ to }
         requires within { to ≤ length self.now.items }
-        requires drawn { All (λ t. t.ticket < length generations.now) self.now.items }
         ensures { MatchOption result
-            (IsAbsent (map (tag_handle generations.now) (between from to self.now.items)) handle)
-            (IsFirstAt (map (tag_handle generations.now) (between from to self.now.items)) handle) }
+            (IsAbsent (map tag_handle (between from to self.now.items)) handle)
+            (IsFirstAt (map tag_handle (between from to self.now.items)) handle) }
     {
-        tag::find(&self.labels[from..to], generations, handle)
+        tag::find(&self.labels[from..to], handle)
     }
 }

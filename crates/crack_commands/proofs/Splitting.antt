@@ -90,10 +90,6 @@ pub is_word_some : (w : List ℕ) → 0 < length w → is_word w ≡ true
 is_word_some [] h = absurd (omega arith)
 is_word_some (b ∷ bs) h = refl
 
-pub is_word_none : (w : List ℕ) → length w ≡ 0 → is_word w ≡ false
-is_word_none [] h = refl
-is_word_none (b ∷ bs) h = absurd (omega arith)
-
 -- the first place of a byte, where none is before it
 pub place_here : (byte : ℕ) (xs : List ℕ) (i : ℕ) → i < length xs → get_or xs i 0 ≡ byte → ((k : ℕ) → k < i → eqb (get_or xs k 0) byte ≡ false) → i ≡ position_or_len (λ b. eqb b byte) xs
 place_here byte xs i below here before = sym (position_or_len_is (λ b. eqb b byte) xs i 0 (omega (arith, below)) before (λ within. eq-eqb _ _ here))

@@ -1,15 +1,11 @@
 -- What private clauses alone cite.
 use Rattle.std.specs.Prelude.{◌≡◌, ℕ, ◌+◌, ◌-◌, ◌*◌, ◌<◌, ◌≤◌, ◌⊎◌, ℤ, int_le, fold, Bool, true, false, List, [], ◌∷◌, ◌++◌, length, take, drop, Option, Some, None, Result, Ok, Err, nat_le, nat_lt, slice_index, not, ◌==◌, ◌||◌, ◌&&◌, slice_index_or, codes, decimal, if◌then◌else◌}
 use Rattle.std.specs.Option.{option_map, option_zip}
-use Rattle.std.specs.List.{flat_map, list_all}
+use Rattle.std.specs.List.{list_all}
 use Rattle.std.specs.Int.{bit_at}
-use Rattle.std.specs.Fmt.{signed_decimal}
 use Rattle.std.specs.Str.{bytes_eq}
 use Rattle.crack_row.specs.declared.Key.{Key}
 use Rattle.crack_row.specs.declared.Payload.{Payload}
-use Rattle.crack_row.specs.declared.Row.{Row}
-use Rattle.crack_row.specs.declared.Serial.{Serial}
-use Rattle.crack_row.specs.declared.layout.Layout.{Layout}
 use Rattle.crack_row.specs.Ranges.{Range}
 use Rattle.crack_row.specs.declared.TheConstants.{GREATEST_KEY, LEAST_PAYLOAD, GREATEST_PAYLOAD, GREATEST_BOUND}
 use Rattle.crack_row.specs.declared.RowNo.{RowNo}
@@ -19,7 +15,7 @@ use Rattle.crack_commands.specs.declared.words.TheConstants.{GREATEST_PART}
 use Rattle.crack_commands.specs.declared.statement.Statement.TheVariants.{Insert, Delete, Update, Layout as AsksLayout, Checkpoint, Watch, WatchPart, Policy, Ping, End}
 use Rattle.crack_commands.specs.declared.statement.Ending.TheVariants.{Quit}
 use Rattle.crack_commands.specs.Grammar.{Reading, words, is_digit, number_of, whole_number_of, number_up_to, row_number_of, key_read, payload_read, two_of, only_word, policy_named, made}
-use Rattle.crack_commands.specs.Texts.{line_text, row_text, field_text}
+use Rattle.crack_commands.specs.Texts.{field_text}
 
 -- whether the bytes have a space
 abbrev pub has_space : List ℕ → Bool
@@ -81,10 +77,6 @@ pub record EndsLine (bytes : List ℕ) (number : ℤ) (len : ℕ) : Type 0 where
   pub feed : slice_index bytes len ≡ 10
   pub printed : list_all (nat_lt 32) (take count bytes) ≡ true
   pub says : whole_number_of (take count bytes) ≡ Some number
-
--- the number of rows, and then a line for each row
-abbrev pub rows_text : ℕ → List Row → List ℕ
-rows_text part rows = line_text (codes "rows ") (decimal (length rows)) ++ flat_map (row_text part) rows
 
 -- whether the bit with this number is set
 abbrev pub has_bit : ℕ → ℕ → Bool

@@ -1,4 +1,4 @@
-//! The statement language and its texts: parses a line into a statement, and writes replies and layouts as lines.
+//! The statement language and its texts: parses a line into a statement, and appends the lines of replies and layouts.
 #![tactic(auto)]
 
 mod leading;
@@ -13,8 +13,7 @@ pub use output::send;
 pub use statement::{Ending, Statement, parse_long, parse_statement};
 pub use text::{
     LONGEST_TEXT, TEXT_BYTES, policy_line, push, push_count, push_folded, push_gone, push_head,
-    push_layout_head, push_piece, push_placed, push_refusal, push_row, push_sum, write_each_row,
-    write_folded, write_head, write_layout, write_refusal, write_reply, write_row,
+    push_layout_head, push_piece, push_placed, push_refusal, push_row, push_sum,
 };
 pub use watching::{Traffic, push_numbers};
 pub use words::{read_key, read_number_up_to, read_payload};

@@ -1,19 +1,13 @@
-//! Writing the texts of replies, layouts and refusals.
+//! Appending the texts of replies, layouts and refusals.
 ghost use Rattle.std.specs.Prelude.{◌≡◌, ◌+◌, ◌<◌, ◌≤◌, ◌++◌, length, decimal, codes};
 ghost use Rattle.std.specs.List.{flat_map};
 ghost use Rattle.std.specs.Fmt.{signed_decimal};
-ghost use Rattle.crack_commands.specs.Texts.{line_text, reply_text, row_text, layout_text, piece_text, policy_text};
-ghost use Rattle.crack_commands.specs.Texts.{refusal_text, field_text, bits_text, Writes};
-ghost use Rattle.crack_commands.specs.Inside.{rows_text, refused_text};
-ghost use Rattle.crack_commands.specs.Texts.{placed_text, gone_text, layout_head, two_fields};
-ghost use Rattle.crack_commands.specs.Inside.{has_bit, bit_text};
+ghost use Rattle.crack_commands.specs.Texts.{line_text, row_text, piece_text, policy_text, refusal_text, field_text};
+ghost use Rattle.crack_commands.specs.Texts.{bits_text, placed_text, gone_text, layout_head, two_fields};
+ghost use Rattle.crack_commands.specs.Inside.{refused_text, has_bit, bit_text};
 
-use crate::output::send;
 use arrayvec::ArrayVec;
-use crack_row::{
-    Bound, Key, Layout, Payload, PieceSize, Policy, Refusal, Reply, Row, Serial, Watched,
-};
-use std::io::Write;
+use crack_row::{Bound, Key, Layout, Payload, PieceSize, Policy, Refusal, Row, Serial};
 
 /// The space for a line of text, or a part of one. The longest is the line of a piece: a word, two bounds of up to
 /// 40 digits, a size of 20, and four more bytes.
@@ -23,46 +17,9 @@ pub const TEXT_BYTES: usize = 112;
 /// numbers.
 pub const LONGEST_TEXT: usize = 2048;
 
-/// A line of text under construction.
-type Text = ArrayVec<u8, TEXT_BYTES>;
-
 /// The space for the line of an inserted row, the most frequent one: a word, a partition number of 10 digits, a
-/// serial of 20, and three more bytes. It is cleared for each line.
+/// serial of 20, and three more bytes.
 const PLACED_BYTES: usize = 48;
-
-/// Writes a partition's reply: one line, and if it lists rows, a line for each row after that.
-#[inline(always)]
-pub fn write_reply<W: Write>(
-    part: u32,
-    reply: &Reply,
-    writer: &mut Watched<W>,
-) -> Result<(), Refusal>
-    ensures { Writes W.contents (reply_text part reply.now) result writer.old writer.new }
-{
-    match reply {
-        Reply::Placed(serial) => write_placed(part, *serial, writer),
-        Reply::Gone(row) => {
-            // a copy, so that an inserted row's reply isn't stored in memory
-            let gone = *row;
-            write_gone(&gone, writer)
-        }
-        Reply::Changed => send(writer, b"changed\n"),
-        Reply::NoRow => send(writer, b"none\n"),
-        Reply::Counted(count) => write_count(*count, writer),
-        Reply::Summed(sum) => write_sum(*sum, writer),
-        Reply::Rows(rows) => write_rows(part, rows.as_slice(), writer),
-    }
-}
-
-/// Writes the line of a row that was inserted.
-#[inline(always)]
-fn write_placed<W: Write>(part: u32, serial: Serial, writer: &mut Watched<W>) -> Result<(), Refusal>
-    ensures { Writes W.contents (placed_text part serial) result writer.old writer.new }
-{
-    let mut text: ArrayVec<u8, PLACED_BYTES> = ArrayVec::new();
-    push_placed(&mut text, part, serial);
-    send(writer, text.as_slice())
-}
 
 /// Adds the line of a row that was inserted.
 #[inline(always)]
@@ -93,15 +50,6 @@ fn push_part<const ROOM: usize>(text: &mut ArrayVec<u8, ROOM>, part: u32)
     }
 }
 
-/// Writes the line of a row that was deleted.
-fn write_gone<W: Write>(row: &Row, writer: &mut Watched<W>) -> Result<(), Refusal>
-    ensures { Writes W.contents (gone_text row.now) result writer.old writer.new }
-{
-    let mut text = Text::new();
-    push_gone(&mut text, row);
-    send(writer, text.as_slice())
-}
-
 /// Adds the line of a row that was deleted.
 pub fn push_gone<const ROOM: usize>(text: &mut ArrayVec<u8, ROOM>, row: &Row)
     requires { length text.old.items + TEXT_BYTES ≤ ROOM }
@@ -114,15 +62,6 @@ pub fn push_gone<const ROOM: usize>(text: &mut ArrayVec<u8, ROOM>, row: &Row)
     push(text, b"\n");
 }
 
-/// Writes the line of a count.
-fn write_count<W: Write>(count: u64, writer: &mut Watched<W>) -> Result<(), Refusal>
-    ensures { Writes W.contents (line_text (codes "count ") (decimal count)) result writer.old writer.new }
-{
-    let mut text = Text::new();
-    push_count(&mut text, count);
-    send(writer, text.as_slice())
-}
-
 /// Adds the line of a count.
 pub fn push_count<const ROOM: usize>(text: &mut ArrayVec<u8, ROOM>, count: u64)
     requires { length text.old.items + TEXT_BYTES ≤ ROOM }
@@ -131,15 +70,6 @@ pub fn push_count<const ROOM: usize>(text: &mut ArrayVec<u8, ROOM>, count: u64)
     push(text, b"count ");
     push_number(text, count);
     push(text, b"\n");
-}
-
-/// Writes the line of a sum.
-fn write_sum<W: Write>(sum: i128, writer: &mut Watched<W>) -> Result<(), Refusal>
-    ensures { Writes W.contents (line_text (codes "sum ") (signed_decimal sum)) result writer.old writer.new }
-{
-    let mut text = Text::new();
-    push_sum(&mut text, sum);
-    send(writer, text.as_slice())
 }
 
 /// Adds the line of a sum.
@@ -152,15 +82,6 @@ pub fn push_sum<const ROOM: usize>(text: &mut ArrayVec<u8, ROOM>, sum: i128)
     push(text, b"\n");
 }
 
-/// Writes the line of a checkpoint, with its number of commands.
-pub fn write_folded<W: Write>(folded: u64, writer: &mut Watched<W>) -> Result<(), Refusal>
-    ensures { Writes W.contents (line_text (codes "folded ") (decimal folded)) result writer.old writer.new }
-{
-    let mut text = Text::new();
-    push_folded(&mut text, folded);
-    send(writer, text.as_slice())
-}
-
 /// Adds the line of a checkpoint, with its number of commands.
 pub fn push_folded<const ROOM: usize>(text: &mut ArrayVec<u8, ROOM>, folded: u64)
     requires { length text.old.items + TEXT_BYTES ≤ ROOM }
@@ -171,37 +92,6 @@ pub fn push_folded<const ROOM: usize>(text: &mut ArrayVec<u8, ROOM>, folded: u64
     push(text, b"\n");
 }
 
-/// Writes the number of rows, and then a line for each row.
-fn write_rows<W: Write>(part: u32, rows: &[Row], writer: &mut Watched<W>) -> Result<(), Refusal>
-    ensures { Writes W.contents (rows_text part rows.now) result writer.old writer.new }
-{
-    write_head(rows.len() as u64, writer)?;
-    write_each_row(part, rows, writer)
-}
-
-/// Writes a line for each row.
-pub fn write_each_row<W: Write>(
-    part: u32,
-    rows: &[Row],
-    writer: &mut Watched<W>,
-) -> Result<(), Refusal>
-    ensures { Writes W.contents (flat_map (row_text part) rows.now) result writer.old writer.new }
-{
-    'rows: for row in rows {
-        write_row(part, row, writer)?;
-    }
-    Ok(())
-}
-
-/// Writes the line before listed rows, with their number.
-pub fn write_head<W: Write>(total: u64, writer: &mut Watched<W>) -> Result<(), Refusal>
-    ensures { Writes W.contents (line_text (codes "rows ") (decimal total)) result writer.old writer.new }
-{
-    let mut text = Text::new();
-    push_head(&mut text, total);
-    send(writer, text.as_slice())
-}
-
 /// Adds the line before listed rows, with their number.
 pub fn push_head<const ROOM: usize>(text: &mut ArrayVec<u8, ROOM>, total: u64)
     requires { length text.old.items + TEXT_BYTES ≤ ROOM }
@@ -210,15 +100,6 @@ pub fn push_head<const ROOM: usize>(text: &mut ArrayVec<u8, ROOM>, total: u64)
     push(text, b"rows ");
     push_number(text, total);
     push(text, b"\n");
-}
-
-/// Writes the line of one row of a partition.
-pub fn write_row<W: Write>(part: u32, row: &Row, writer: &mut Watched<W>) -> Result<(), Refusal>
-    ensures { Writes W.contents (row_text part row.now) result writer.old writer.new }
-{
-    let mut text = Text::new();
-    push_row(&mut text, part, row);
-    send(writer, text.as_slice())
 }
 
 /// Adds the line of one row of a partition.
@@ -234,31 +115,6 @@ pub fn push_row<const ROOM: usize>(text: &mut ArrayVec<u8, ROOM>, part: u32, row
     push(text, b" ");
     push_payload(text, row.payload);
     push(text, b"\n");
-}
-
-/// Writes the lines of a partition's layout, one piece at a time.
-pub fn write_layout<W: Write>(
-    part: u32,
-    layout: &Layout,
-    writer: &mut Watched<W>,
-) -> Result<(), Refusal>
-    ensures { Writes W.contents (layout_text part layout.now) result writer.old writer.new }
-{
-    write_layout_head(part, layout, writer)?;
-    write_pieces(layout.pieces.as_slice(), writer)
-}
-
-/// Writes the first line of a layout.
-fn write_layout_head<W: Write>(
-    part: u32,
-    layout: &Layout,
-    writer: &mut Watched<W>,
-) -> Result<(), Refusal>
-    ensures { Writes W.contents (layout_head part layout.now) result writer.old writer.new }
-{
-    let mut text: ArrayVec<u8, LONGEST_TEXT> = ArrayVec::new();
-    push_layout_head(&mut text, part, layout);
-    send(writer, text.as_slice())
 }
 
 /// Adds two names of at most 10 bytes, each followed by its number.
@@ -303,25 +159,6 @@ pub fn push_layout_head<const ROOM: usize>(
     push(text, b"\n");
 }
 
-/// Writes the lines of pieces.
-fn write_pieces<W: Write>(pieces: &[PieceSize], writer: &mut Watched<W>) -> Result<(), Refusal>
-    ensures { Writes W.contents (flat_map piece_text pieces.now) result writer.old writer.new }
-{
-    'pieces: for piece in pieces {
-        write_piece(piece, writer)?;
-    }
-    Ok(())
-}
-
-/// Writes the line of a piece.
-fn write_piece<W: Write>(piece: &PieceSize, writer: &mut Watched<W>) -> Result<(), Refusal>
-    ensures { Writes W.contents (piece_text piece.now) result writer.old writer.new }
-{
-    let mut text = Text::new();
-    push_piece(&mut text, piece);
-    send(writer, text.as_slice())
-}
-
 /// Adds the line of a piece.
 pub fn push_piece<const ROOM: usize>(text: &mut ArrayVec<u8, ROOM>, piece: &PieceSize)
     requires { length text.old.items + TEXT_BYTES ≤ ROOM }
@@ -334,15 +171,6 @@ pub fn push_piece<const ROOM: usize>(text: &mut ArrayVec<u8, ROOM>, piece: &Piec
     push(text, b" ");
     push_number(text, piece.size);
     push(text, b"\n");
-}
-
-/// Writes the line of a refusal.
-pub fn write_refusal<W: Write>(refusal: &Refusal, writer: &mut Watched<W>) -> Result<(), Refusal>
-    ensures { Writes W.contents (refusal_text refusal.now) result writer.old writer.new }
-{
-    let mut text: ArrayVec<u8, LONGEST_TEXT> = ArrayVec::new();
-    push_refusal(&mut text, refusal);
-    send(writer, text.as_slice())
 }
 
 /// Adds the line of a refusal.

@@ -1,5 +1,6 @@
 pub mod AskLaws
 pub mod BulkLaws
+pub mod Crosses
 pub mod JobLaws
 pub mod KeyLaws
 pub mod ListLaws

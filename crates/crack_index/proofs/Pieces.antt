@@ -21,10 +21,6 @@ in_above low high key h = rw (and_right (leb low key) (ltb key high) (le-ltb key
 
 -- Where pieces begin
 
-pub start-most : (es : List (ℕ × ℤ)) → Rises es → start_of es ≤ GREATEST_BOUND
-start-most [] rises = omega arith
-start-most (e ∷ es) rises = let most = start-most es rises.1 in omega (arith, rises.0)
-
 pub end-above : (bound : ℕ) (es : List (ℕ × ℤ)) → Rises es → IsEnd bound es → start_of es ≤ bound
 end-above bound [] rises is = omega arith
 end-above bound (e ∷ es) rises (inl is) = omega arith
@@ -73,13 +69,6 @@ next_above key [] few = few
 next_above key (e ∷ es) few = elim (cases_lt key e.0) [
   | inl l ↦ rw (lt-ltb key e.0 l) l
   | inr l ↦ rw (le-ltb key e.0 l) (next_above key es few)
-]
-
-pub next_most : (key bound : ℕ) (es : List (ℕ × ℤ)) → Rises es → IsEnd bound es → key < bound → next_at key es ≤ bound
-next_most key bound [] rises is h = omega arith
-next_most key bound (e ∷ es) rises is h = elim (cases_lt key e.0) [
-  | inl l ↦ let above = end-above bound (e ∷ es) rises is in rw (lt-ltb key e.0 l) above
-  | inr l ↦ rw (le-ltb key e.0 l) (next_most key bound es rises.1 (elim is [ inl e ↦ absurd (omega arith) | inr is ↦ is ]) h)
 ]
 
 -- What is true of the piece that has a key

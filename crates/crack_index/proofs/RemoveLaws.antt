@@ -1,9 +1,8 @@
 -- The marks without some of them.
 use Rattle.std.proofs.Common.{◌≡◌, ◌≢◌, ℕ, ◌+◌, List, [], ◌∷◌, length, inl, inr, zero, suc, arith}
-use Rattle.std.specs.Prelude.{Contains}
 use Rattle.std.specs.List.{All}
 use Rattle.std.proofs.lemmas.Bool.{cases_eq, eq-eqb, ne_eqb}
-use Rattle.std.proofs.lemmas.List.Elements.{All-nil, All-cons, All-head, All-tail, Contains-get_or}
+use Rattle.std.proofs.lemmas.List.Elements.{All-nil, All-cons, All-head, All-tail}
 use Rattle.crack_index.specs.declared.mark.Mark.{Mark}
 use Rattle.crack_index.specs.Marks.{InOrder, Rising, HasBound, removed, SomeMarks}
 use Rattle.crack_index.proofs.MarkLaws.{Rising-head, Rising-tail, Rising-cons}
@@ -24,12 +23,6 @@ SomeMarks-Rising some all SomeMarks.nothing rising = rising
 SomeMarks-Rising some all (SomeMarks.left_out m ms ns is) rising = SomeMarks-Rising ms ns is (Rising-tail m ns rising)
 SomeMarks-Rising some all (SomeMarks.kept m ms ns is) rising = Rising-cons m ms (SomeMarks-All (InOrder m) ms ns is (Rising-head m ns rising)) (SomeMarks-Rising ms ns is (Rising-tail m ns rising))
 
-pub SomeMarks-some : (few some all : List Mark) → SomeMarks few some → SomeMarks some all → SomeMarks few all
-SomeMarks-some few some all is SomeMarks.nothing = is
-SomeMarks-some few some all is (SomeMarks.left_out m ms ns rest) = SomeMarks.left_out m few ns (SomeMarks-some few ms ns is rest)
-SomeMarks-some few some all (SomeMarks.left_out n ks ls is) (SomeMarks.kept m ms ns rest) = SomeMarks.left_out m few ns (SomeMarks-some few ms ns is rest)
-SomeMarks-some few some all (SomeMarks.kept n ks ls is) (SomeMarks.kept m ms ns rest) = SomeMarks.kept m ks ns (SomeMarks-some ks ms ns is rest)
-
 -- Without one of them
 
 pub SomeMarks-removed : (b : ℕ) (ms : List Mark) → SomeMarks (removed b ms) ms
@@ -38,10 +31,6 @@ SomeMarks-removed b (m ∷ ms) = elim (cases_eq m.bound.0 b) [
   | inl e ↦ rw (eq-eqb m.bound.0 b e) (SomeMarks.left_out m ms ms (SomeMarks-all ms))
   | inr n ↦ rw (ne_eqb m.bound.0 b n) (SomeMarks.kept m (removed b ms) ms (SomeMarks-removed b ms))
 ]
-
--- every mark is one of all
-pub All-contained : (ms : List Mark) → All (λ m. Contains ms m) ms
-All-contained ms = λ k d h. Contains-get_or ms k d h
 
 pub length-removed : (b : ℕ) (ms : List Mark) → HasBound ms b → length (removed b ms) + 1 ≡ length ms
 length-removed b [] there = absurd (let h = there.1 in omega arith)

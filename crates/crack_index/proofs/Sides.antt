@@ -9,7 +9,7 @@ use Rattle.crack_index.specs.declared.mark.Mark.{Mark}
 use Rattle.crack_index.specs.declared.tree.Edge.{Edge}
 use Rattle.crack_row.specs.declared.Bound.{Bound}
 use Rattle.crack_row.specs.declared.layout.PieceSize.{PieceSize}
-use Rattle.crack_index.specs.Marks.{pieces_from, size_between, InOrder, Rising, next_mark, last_mark, first_behind, last_before, added, removed, raised, lowered, lowered_at, HasBound}
+use Rattle.crack_index.specs.Marks.{pieces_from, size_between, InOrder, Rising, next_mark, last_mark, first_behind, last_before, added, removed, raised, lowered_at, HasBound}
 use Rattle.std.specs.declared.alloc.Global.{Global}
 use Rattle.std.proofs.Common.{Box}
 use Rattle.crack_index.specs.Heights.{least, most}
@@ -17,7 +17,7 @@ use Rattle.crack_index.specs.Trees.{Grown, marks_of}
 use Rattle.crack_index.specs.Keeps.{height_of, IsTall, DifferByAtMost, IsBalanced, IsKept}
 use Rattle.crack_index.proofs.MarkLaws.{Rising-tail, Rising-cons, Rising-head}
 use Rattle.crack_index.proofs.RemoveLaws.{SomeMarks-Rising, SomeMarks-removed, length-removed}
-use Rattle.crack_index.proofs.MarkLemmas.{map_same, raised_below, raised_apart, lowered_above, lowered_apart, lowered_at_apart, lowered_at_same}
+use Rattle.crack_index.proofs.MarkLemmas.{map_same, raised_below, raised_apart, lowered_at_apart, lowered_at_same}
 
 -- Order
 
@@ -108,10 +108,6 @@ first_behind-right place (x ∷ l) m r rising h =
     let below = (All-head (λ y. InOrder y m) x l (Rising-before (x ∷ l) m r rising)).positions in
     rw (le-ltb place x.position (omega arith)) (first_behind-right place l m r (Rising-tail x (l ++ m ∷ r) rising) h)
 
-pub last_before-left : (place : ℕ) (l : List Mark) (m : Mark) (r : List Mark) → place ≤ m.position → last_before place (l ++ m ∷ r) ≡ last_before place l
-last_before-left place [] m r h = rw (le-ltb m.position place h) refl
-last_before-left place (x ∷ l) m r h = rw (last_before-left place l m r h) refl
-
 pub last_before-right : (place : ℕ) (l : List Mark) (m : Mark) (r : List Mark) → Rising (l ++ m ∷ r) → m.position < place → last_before place (l ++ m ∷ r) ≡ Some (unwrap_or (last_before place r) m)
 last_before-right place [] m r rising h = rw (lt-ltb m.position place h) refl
 last_before-right place (x ∷ l) m r rising h =
@@ -161,22 +157,6 @@ raised-left low place l m r rising past =
     let order = Rising-behind l m r rising in
     moved_left (raised low place) l m r (λ k d h. raised_apart low place (get_or r k d) (omega (arith, past, (order k d h).positions))) (raised_apart low place m (omega arith))
 
--- those after a mark that isn't moved for its bound, or is after the place, aren't either
-pub lowered-left : (high place : ℕ) (l : List Mark) (m : Mark) (r : List Mark) → Rising (l ++ m ∷ r) → (high < m.bound.0) ⊎ (place < m.position) → map (lowered high place) (l ++ m ∷ r) ≡ map (lowered high place) l ++ m ∷ r
-lowered-left high place l m r rising which =
-    let order = Rising-behind l m r rising in
-    moved_left (lowered high place) l m r
-    (λ k d h. elim which [
-      | inl b ↦ lowered_above high place (get_or r k d) (omega (arith, b, (order k d h).bounds))
-      | inr p ↦ lowered_apart high place (get_or r k d) (omega (arith, p, (order k d h).positions))
-    ])
-    (elim which [ inl b ↦ lowered_above high place m b | inr p ↦ lowered_apart high place m (omega arith) ])
-
-pub lowered-right : (high place : ℕ) (l : List Mark) (m : Mark) (r : List Mark) → Rising (l ++ m ∷ r) → m.position < place → map (lowered high place) (l ++ m ∷ r) ≡ l ++ m ∷ map (lowered high place) r
-lowered-right high place l m r rising before =
-    let order = Rising-before l m r rising in
-    moved_right (lowered high place) l m r (λ k d h. lowered_apart high place (get_or l k d) (omega (arith, before, (order k d h).positions))) (lowered_apart high place m (omega arith))
-
 pub lowered_at-left : (place : ℕ) (l : List Mark) (m : Mark) (r : List Mark) → Rising (l ++ m ∷ r) → place < m.position → map (lowered_at place) (l ++ m ∷ r) ≡ map (lowered_at place) l ++ m ∷ r
 lowered_at-left place l m r rising past =
     let order = Rising-behind l m r rising in
@@ -193,9 +173,6 @@ lowered_at-right place l m r rising before =
 least_more : (h : ℕ) → least h ≤ least (suc h)
 least_more zero = omega arith
 least_more (suc h) = omega arith
-
-most_more : (h : ℕ) → most h ≤ most (suc h)
-most_more h = omega arith
 
 -- a side that is as high as the other, or one level higher
 tall_level : (a b h : ℕ) → IsTall a h → IsTall b h → IsTall (a + (1 + b)) (suc h)

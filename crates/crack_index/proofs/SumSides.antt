@@ -52,11 +52,6 @@ Rises-left [] e ys rises = tt
 Rises-left (x ∷ []) e ys rises = let most = most_start (e ∷ ys) rises.1 in (omega (arith, rises.0), tt)
 Rises-left (x ∷ z ∷ xs) e ys rises = (rises.0, Rises-left (z ∷ xs) e ys rises.1)
 
--- pieces are at most as many as keys
-pub Rises-few : (es : List (ℕ × ℤ)) → Rises es → length es + start_of es ≤ GREATEST_BOUND
-Rises-few [] rises = omega arith
-Rises-few (e ∷ es) rises = let rest = Rises-few es rises.1 in omega (arith, rises.0)
-
 -- Look-ups
 
 -- what was found, or else what was found before

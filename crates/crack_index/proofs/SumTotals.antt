@@ -1,5 +1,5 @@
 -- The totals of lists of pieces, and of their parts.
-use Rattle.std.proofs.Common.{◌≡◌, ℕ, ◌+◌, ◌<◌, ◌≤◌, List, [], ◌∷◌, ◌++◌, refl, sym, ◌∙◌, inl, inr, arith, append_assoc, append-nil}
+use Rattle.std.proofs.Common.{◌≡◌, ℕ, ◌+◌, ◌<◌, ◌≤◌, List, [], ◌∷◌, ◌++◌, refl, sym, ◌∙◌, inl, inr, arith, append_assoc}
 use Rattle.std.specs.Prelude.{ℤ, pos, negsuc, ◌+ℤ◌, neg_ℤ, ◌≤ℤ◌, ◌^◌, unsigned_abs, true, false}
 use Rattle.std.specs.Ordering.{int_eq}
 use Rattle.std.proofs.lemmas.Bool.{cases_Bool, lt-ltb, le-leb}
@@ -89,9 +89,6 @@ IsTotal-append xs ys lower upper one two = record {
 pub IsTotal-one : (e : ℕ × ℤ) → IsTotal (e ∷ []) e.1
 IsTotal-one e = record { right = λ known. ((known, tt), omega (arith, ints)); found = λ all few. all.0 }
 
-pub IsTotal-none : IsTotal [] (pos 0)
-IsTotal-none = record { right = λ known. (tt, refl); found = λ all few. λ is. absurd (cc) }
-
 -- the totals of both sides and the piece between them
 pub IsTotal-over : (xs ys : List (ℕ × ℤ)) (start : ℕ) (lower sum upper : ℤ) → IsTotal xs lower → IsTotal ys upper → IsTotal (xs ++ (start, sum) ∷ ys) (both (both lower sum) upper)
 IsTotal-over xs ys start lower sum upper one two =
@@ -110,24 +107,12 @@ pub record IsBefore (all left : List (ℕ × ℤ)) (total : ℤ) : Type 0 where
   pub whole : passed ++ left ≡ all
   pub sum : IsTotal passed total
 
-pub behind-first : (all : List (ℕ × ℤ)) → IsBehind all all (pos 0)
-behind-first all = record { passed = []; whole = append-nil all; sum = IsTotal-none }
-
-pub behind-last : (all : List (ℕ × ℤ)) (total : ℤ) → IsBehind all [] total → IsTotal all total
-behind-last all total is = rw (← is.whole) is.sum
-
 pub behind-step : (all xs ys : List (ℕ × ℤ)) (e : ℕ × ℤ) (upper total : ℤ) → IsTotal ys upper → IsBehind all (xs ++ e ∷ ys) total → IsBehind all xs (both (both e.1 upper) total)
 behind-step all xs ys e upper total right is = record {
   passed = (e ∷ ys) ++ is.passed;
   whole = sym (append_assoc xs (e ∷ ys) is.passed) ∙ is.whole;
   sum = IsTotal-append (e ∷ ys) is.passed (both e.1 upper) total (IsTotal-append (e ∷ []) ys e.1 upper (IsTotal-one e) right) is.sum;
 }
-
-pub before-first : (all : List (ℕ × ℤ)) → IsBefore all all (pos 0)
-before-first all = record { passed = []; whole = refl; sum = IsTotal-none }
-
-pub before-last : (all : List (ℕ × ℤ)) (total : ℤ) → IsBefore all [] total → IsTotal all total
-before-last all total is = rw (sym (append-nil is.passed) ∙ is.whole) at is.sum
 
 pub before-step : (all xs ys : List (ℕ × ℤ)) (e : ℕ × ℤ) (lower total : ℤ) → IsTotal xs lower → IsBefore all (xs ++ e ∷ ys) total → IsBefore all ys (both (both total lower) e.1)
 before-step all xs ys e lower total left is = record {

@@ -7,8 +7,7 @@ ghost use Rattle.crack_index.specs.Walks.{Climbs, Descends};
 ghost use Rattle.crack_index.specs.Raises.{Raises};
 ghost use Rattle.crack_index.specs.Places.{Places};
 ghost use Rattle.crack_index.specs.Marks.{Rising, Fits, HasBound, position_of, next_mark, last_mark, first_behind};
-ghost use Rattle.crack_index.specs.Marks.{last_before, added, removed, raised, lowered, lowered_at, piece_at};
-ghost use Rattle.crack_index.specs.Marks.{pieces_from};
+ghost use Rattle.crack_index.specs.Marks.{added, removed, raised, lowered_at, piece_at, pieces_from};
 ghost use Rattle.crack_index.specs.Passes.{pass_above, next_few};
 
 use crate::tree::{self, Link, Node};
@@ -192,15 +191,6 @@ impl CrackerIndex {
         tree::next_above(&self.root, key.number())
     }
 
-    /// The least bound above this one, which need not be in the index. O(log bounds).
-    pub fn next_after(&self, bound: InnerBound) -> Option<Mark>
-        ensures value { result ≡ next_mark bound.0 self.now.marks }
-        ensures there { IfSome result (λ m. Contains self.now.marks m) }
-        ensures rising { Rising self.now.marks }
-    {
-        self.bound_above(bound.key())
-    }
-
     /// The greatest bound at or below this key. O(log bounds).
     pub fn bound_below(&self, key: Key) -> Option<Mark>
         ensures value { result ≡ last_mark key.0 self.now.marks }
@@ -243,34 +233,6 @@ impl CrackerIndex {
         tree::piece_sizes(*self.spare.allocator(), &self.root, self.len, keys, len)
     }
 
-    /// Moves this bound, and each higher bound at the same place, up by one place. O(log bounds + bounds at that
-    /// place).
-    pub fn raise_from(&mut self, bound: InnerBound)
-        requires there { HasBound self.old.marks bound.0 }
-        requires small { position_of bound.0 self.old.marks < usize.MAX }
-        ensures marks { self.new.marks ≡ map (raised bound.0 (position_of bound.0 self.old.marks)) self.old.marks }
-        ensures room { self.new.room ≡ self.old.room }
-        ensures rising { Rising self.new.marks }
-    {
-        if let Some(place) = self.position(bound) {
-            tree::raise(&mut self.root, bound.number(), place);
-        }
-    }
-
-    /// Moves this bound, and each lower bound at the same place, down by one place. O(log bounds + bounds at that
-    /// place).
-    pub fn lower_to(&mut self, bound: InnerBound)
-        requires there { HasBound self.old.marks bound.0 }
-        requires above_zero { 0 < position_of bound.0 self.old.marks }
-        ensures marks { self.new.marks ≡ map (lowered bound.0 (position_of bound.0 self.old.marks)) self.old.marks }
-        ensures room { self.new.room ≡ self.old.room }
-        ensures rising { Rising self.new.marks }
-    {
-        if let Some(place) = self.position(bound) {
-            tree::lower(&mut self.root, bound.number(), place);
-        }
-    }
-
     /// Moves each bound at the place down by one. O(log bounds + bounds at that place).
     pub fn lower_at(&mut self, position: usize)
         requires { All (λ m. m.position ≡ position → 0 < position) self.old.marks }
@@ -297,23 +259,6 @@ impl CrackerIndex {
         let Mark { bound, position } = mark;
         let next = tree::first_behind(&self.root, position);
         tree::raise(&mut self.root, bound.number(), position);
-        next
-    }
-
-    /// Moves this mark's bound, and each lower bound at the same place, down by one place. Returns the last bound
-    /// that was before that place. O(log bounds + bounds at that place).
-    pub fn lower_past(&mut self, mark: Mark) -> Option<Mark>
-        requires there { Contains self.old.marks mark }
-        requires above_zero { 0 < mark.position }
-        ensures marks { self.new.marks ≡ map (lowered mark.bound.0 mark.position) self.old.marks }
-        ensures next { result ≡ last_before mark.position self.old.marks }
-        ensures there { IfSome result (λ m. Contains self.new.marks m) }
-        ensures room { self.new.room ≡ self.old.room }
-        ensures rising { Rising self.new.marks }
-    {
-        let Mark { bound, position } = mark;
-        let next = tree::last_before(&self.root, position);
-        tree::lower(&mut self.root, bound.number(), position);
         next
     }
 

@@ -2,8 +2,8 @@
 //! passes its nodes in. Look-ups and moves of marks take no memory.
 ghost use Rattle.std.specs.Prelude.{◌≡◌, ◌+◌, ◌-◌, ◌^◌, ◌<◌, ◌≤◌, max, length, [], ◌∷◌, ◌++◌, map, List, ℕ, vec_len};
 ghost use Rattle.std.specs.Prelude.{vec_capacity, OnOk, IfOk, IfErr};
-ghost use Rattle.crack_index.specs.Marks.{Rising, added, last_mark, next_mark, first_behind, last_before, raised};
-ghost use Rattle.crack_index.specs.Marks.{lowered, lowered_at, removed, size_between, pieces_from};
+ghost use Rattle.crack_index.specs.Marks.{Rising, added, last_mark, next_mark, first_behind, raised};
+ghost use Rattle.crack_index.specs.Marks.{lowered_at, removed, size_between, pieces_from};
 ghost use Rattle.crack_index.specs.Keeps.{height_of, IsBalanced, IsTall, DifferByAtMost};
 ghost use Rattle.crack_index.specs.Trees.{Grown, marks_of};
 ghost use Rattle.crack_index.specs.Rotations.{IsHeightOver};
@@ -183,29 +183,6 @@ pub(crate) fn first_behind(link: &Link, place: usize) -> Option<Mark>
             here = right;
         } else {
             found = Some(*mark);
-            here = left;
-        }
-    }
-    found
-}
-
-/// The last mark before the place. O(log marks), one comparison per level.
-pub(crate) fn last_before(link: &Link, place: usize) -> Option<Mark>
-    ensures { result ≡ last_before place (marks_of link.now) }
-{
-    let mut found = None;
-    let mut here = link;
-    'down: while let Some(node) = here {
-        let Node {
-            mark,
-            left,
-            right,
-            ..
-        } = &**node;
-        if mark.position < place {
-            found = Some(*mark);
-            here = right;
-        } else {
             here = left;
         }
     }
@@ -399,32 +376,6 @@ pub(crate) fn raise(link: &mut Link, low: KeyNumber, place: usize)
         mark.position += 1;
         raise(left, low, place);
         raise(right, low, place);
-    }
-}
-
-/// Moves each bound at or below `high` that is at the place down by one. O(log marks + marks at the place).
-pub(crate) fn lower(link: &mut Link, high: KeyNumber, place: usize)
-    requires { 0 < place }
-    ensures marks { marks_of link.new ≡ map (lowered high place) (marks_of link.old) }
-    ensures height { height_of link.new ≡ height_of link.old }
-{
-    let Some(node) = link else {
-        return;
-    };
-    let Node {
-        mark,
-        left,
-        right,
-        ..
-    } = &mut **node;
-    if high < mark.bound.number() || place < mark.position {
-        lower(left, high, place);
-    } else if mark.position < place {
-        lower(right, high, place);
-    } else {
-        mark.position -= 1;
-        lower(left, high, place);
-        lower(right, high, place);
     }
 }
 

@@ -37,8 +37,8 @@ use std::marker::Model;
 /// the layout of its store, and the plain table that it represents: the live rows by rising serial, and the counts.
 pub struct Partition {
     alloc: Global,
-    keys: KeyRange,
-    limits: Limits,
+    pub(crate) keys: KeyRange,
+    pub(crate) limits: Limits,
     pub(crate) next: u64,
     pub(crate) folded: u64,
     pub(crate) since: u64,
@@ -162,29 +162,6 @@ impl Partition {
         self.folded += since;
         self.since = 0;
         since
-    }
-
-    /// The range of keys that the rows may have.
-    pub fn keys(&self) -> KeyRange
-        ensures { result ≡ self.now.keys }
-    {
-        self.keys
-    }
-
-    /// The greatest number of commands accepted between two checkpoints.
-    pub fn limit(&self) -> u64
-        ensures value { result ≡ self.now.limits.history }
-        ensures limited { IsLimit self.now.limits.history }
-    {
-        self.limits.history
-    }
-
-    /// The limits of the partition.
-    pub fn limits(&self) -> Limits
-        ensures value { result ≡ self.now.limits }
-        ensures limited { AreLimits self.now.limits }
-    {
-        self.limits
     }
 
     /// The merge counts since the partition was opened. Takes no memory.

@@ -1,13 +1,30 @@
-//! The totals of a partition.
+//! The keys, the limits and the totals of a partition.
 ghost use Rattle.std.specs.Prelude.{◌≡◌, ◌+◌, ◌≤◌, length};
+ghost use Rattle.crack_row.specs.Limits.{AreLimits};
 ghost use Rattle.crack_plain.specs.Plain.{accepted_of};
 ghost use Rattle.crack_state.specs.State.{live_rows};
 ghost use Rattle.crack_part.specs.Parts.{state_of, table_of, statistics_of};
 
 use crate::partition::Partition;
 use crack_plain::Statistics;
+use crack_row::{KeyRange, Limits};
 
 impl Partition {
+    /// The range of keys that the rows may have.
+    pub fn keys(&self) -> KeyRange
+        ensures { result ≡ self.now.keys }
+    {
+        self.keys
+    }
+
+    /// The limits of the partition.
+    pub fn limits(&self) -> Limits
+        ensures value { result ≡ self.now.limits }
+        ensures limited { AreLimits self.now.limits }
+    {
+        self.limits
+    }
+
     /// The number of commands accepted since the partition was opened.
     pub fn accepted(&self) -> u64
         ensures value { result ≡ accepted_of (table_of self.now) }
@@ -41,7 +58,7 @@ impl Partition {
     pub fn deletions(&self) -> u64
         ensures { result + length (state_of self.now).rows ≡ self.now.next }
     {
-        self.next - self.rows()
+        self.insertions() - self.rows()
     }
 
     /// The number of rows. O(1).

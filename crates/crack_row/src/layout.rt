@@ -35,13 +35,6 @@ impl PieceList {
         PieceList { pieces }
     }
 
-    /// The pieces as a vector. Takes no memory.
-    pub fn into_vec(self) -> Vec<PieceSize>
-        ensures { result.items ≡ self }
-    {
-        self.pieces
-    }
-
     /// The pieces as a slice.
     pub fn as_slice(&self) -> &[PieceSize]
         ensures { result.now ≡ self.now }

@@ -36,14 +36,6 @@ impl RowList {
         RowList { rows }
     }
 
-    /// The rows as a vector. Takes no memory.
-    pub fn into_vec(self) -> Vec<Row>
-        ensures { result.items ≡ self }
-    {
-        let Self { rows } = self;
-        rows
-    }
-
     /// The rows as a slice.
     pub fn as_slice(&self) -> &[Row]
         ensures { result.now ≡ self.now }

@@ -1,12 +1,12 @@
-//! Texts with the greatest and least numbers, also of a layout, and writers that fail within a text.
-use crack_commands::{write_head, write_layout, write_reply, write_row};
-use crack_failing::Sink;
+//! Texts with the greatest and least numbers, also of a layout.
+use crate::texts::{add, add_reply, add_row};
+use crack_commands::{push_head, push_layout_head, push_piece};
 use crack_row::{
     Bound, GREATEST_BOUND, GREATEST_KEY, GREATEST_PAYLOAD, Key, LEAST_PAYLOAD, Layout, Payload,
-    PayloadNumber, PieceList, PieceSize, Refusal, Reply, Row, Serial, Watched,
+    PayloadNumber, PieceList, PieceSize, Reply, Row, Serial,
 };
+use crack_session::Output;
 use std::alloc::Global;
-use std::io::Write;
 use std::process::Abort;
 
 /// A row with the greatest serial and key, and this payload.
@@ -38,22 +38,36 @@ fn greatest_layout(rt: &impl Abort, alloc: Global) -> Layout {
     }
 }
 
-/// Writes replies with the greatest numbers.
-fn write_greatest<W: Write>(writer: &mut Watched<W>) -> Result<(), Refusal> {
-    write_reply(u32::MAX, &Reply::Placed(Serial(u64::MAX)), writer)?;
-    write_reply(0, &Reply::Gone(greatest_row(GREATEST_PAYLOAD)), writer)?;
-    write_reply(0, &Reply::Summed(i128::MAX), writer)?;
-    write_head(u64::MAX, writer)?;
-    write_row(u32::MAX, &greatest_row(GREATEST_PAYLOAD), writer)
+/// Adds replies with the greatest numbers.
+fn add_greatest(rt: &impl Abort, text: &mut Vec<u8>) {
+    add_reply(rt, text, u32::MAX, Reply::Placed(Serial(u64::MAX)));
+    add_reply(rt, text, 0, Reply::Gone(greatest_row(GREATEST_PAYLOAD)));
+    add_reply(rt, text, 0, Reply::Summed(i128::MAX));
+    let mut out = Output::new();
+    push_head(&mut out, u64::MAX);
+    add(rt, text, &out);
+    add_row(rt, text, u32::MAX, &greatest_row(GREATEST_PAYLOAD));
 }
 
-/// Writes replies with the least payload, the least sum, and sums next to 0.
-fn write_least<W: Write>(writer: &mut Watched<W>) -> Result<(), Refusal> {
-    write_reply(0, &Reply::Gone(greatest_row(LEAST_PAYLOAD)), writer)?;
-    write_reply(0, &Reply::Summed(i128::MIN), writer)?;
-    write_reply(0, &Reply::Summed(-1), writer)?;
-    write_reply(0, &Reply::Summed(0), writer)?;
-    write_row(0, &greatest_row(LEAST_PAYLOAD), writer)
+/// Adds replies with the least payload, the least sum, and sums next to 0.
+fn add_least(rt: &impl Abort, text: &mut Vec<u8>) {
+    add_reply(rt, text, 0, Reply::Gone(greatest_row(LEAST_PAYLOAD)));
+    add_reply(rt, text, 0, Reply::Summed(i128::MIN));
+    add_reply(rt, text, 0, Reply::Summed(-1));
+    add_reply(rt, text, 0, Reply::Summed(0));
+    add_row(rt, text, 0, &greatest_row(LEAST_PAYLOAD));
+}
+
+/// Adds the lines of a layout of partition 4294967295.
+fn add_layout(rt: &impl Abort, text: &mut Vec<u8>, layout: &Layout) {
+    let mut out = Output::new();
+    push_layout_head(&mut out, u32::MAX, layout);
+    add(rt, text, &out);
+    'pieces: for piece in layout.pieces.as_slice() {
+        let mut line = Output::new();
+        push_piece(&mut line, piece);
+        add(rt, text, &line);
+    }
 }
 
 /// The texts of these replies.
@@ -65,11 +79,10 @@ gone 18446744073709551615 -9223372036854775808\nsum -170141183460469231731687303
 0.18446744073709551615 18446744073709551615 -9223372036854775808\n";
 
 #[test]
-fn greatest_numbers_and_least_are_written(rt: HostRuntime) {
-    let mut writer = Watched::new(Vec::new(rt.alloc()));
-    assert!(rt; write_greatest(&mut writer).is_ok());
-    assert!(rt; write_least(&mut writer).is_ok());
-    let text = writer.into_inner();
+fn greatest_numbers_and_least_are_appended(rt: HostRuntime) {
+    let mut text = Vec::new(rt.alloc());
+    add_greatest(&rt, &mut text);
+    add_least(&rt, &mut text);
     assert_eq!(rt; text.as_slice(), REPLIES);
 }
 
@@ -80,29 +93,11 @@ in 18446744073709551615 cells 18446744073709551615 free 18446744073709551615 pie
 piece 18446744073709551616 18446744073709551616 18446744073709551615\n\
 piece 18446744073709551616 18446744073709551616 18446744073709551615\n";
 
-/// Asserts that a writer has a proper prefix of the text if a call fails, and otherwise all of it.
-fn assert_front(rt: &impl Abort, alloc: Global, layout: &Layout, fails_at: u64) {
-    let mut writer = Watched::new(Sink::new(Vec::new(alloc)).failing_at(fails_at));
-    let fault = write_layout(u32::MAX, layout, &mut writer).err();
-    let has_failed = writer.failed();
-    let front = writer.into_inner().into_bytes();
-    let is_whole = front.len() == GREATEST_TEXT.len();
-    let wanted = if fails_at == u64::MAX {
-        (None, false, true)
-    } else {
-        (Some(Refusal::WriteFault), true, false)
-    };
-    assert_eq!(rt; (fault, has_failed, is_whole), wanted);
-    assert!(rt; GREATEST_TEXT.starts_with(&front));
-}
-
 #[test]
-fn layouts_are_written_as_far_as_the_writer_goes(rt: HostRuntime) {
+fn a_layout_is_appended(rt: HostRuntime) {
     let layout = greatest_layout(&rt, rt.alloc());
-    assert_front(&rt, rt.alloc(), &layout, u64::MAX);
-    // (its first line and that of each of its two pieces are written by one call)
-    for fails_at in 1..4 {
-        assert_front(&rt, rt.alloc(), &layout, fails_at);
-    }
+    let mut text = Vec::new(rt.alloc());
+    add_layout(&rt, &mut text, &layout);
     drop(layout);
+    assert_eq!(rt; text.as_slice(), GREATEST_TEXT);
 }

@@ -1,11 +1,11 @@
 //! Steps and checkpoints that one thread makes one after the other, under small limits: their results, as texts.
 use crate::scripts::{Lines, texts_of};
 use crate::session::room;
-use crack_commands::{Statement, parse_statement, write_folded, write_refusal, write_reply};
+use crate::texts::{add_folded, add_refusal, add_reply};
+use crack_commands::{Statement, parse_statement};
 use crack_core::{Core, Done, Job, Step};
 use crack_row::{
     Command, GREATEST_CELLS, GREATEST_LIFE, GREATEST_LIMIT, Limits, Policy, Refusal, Upkeep,
-    Watched,
 };
 use std::alloc::Global;
 use std::process::Abort;
@@ -53,16 +53,18 @@ fn jobs_of(rt: &impl Abort, alloc: Global, script: Lines) -> Vec<Job> {
 
 /// The texts of the results of jobs.
 fn text_of(rt: &impl Abort, alloc: Global, done: &[Result<Done, Refusal>]) -> Vec<u8> {
-    let mut writer = Watched::new(room(rt, alloc));
+    let mut text = room(rt, alloc);
     'done: for place in 0..done.len() {
-        let told = match &done[place] {
-            Ok(Done::Replied(reply)) => write_reply(0, reply, &mut writer),
-            Ok(Done::Folded(count)) => write_folded(*count, &mut writer),
-            Err(refusal) => write_refusal(refusal, &mut writer),
-        };
-        assert!(rt; told.is_ok());
+        match &done[place] {
+            Ok(Done::Replied(reply)) => {
+                let reply = reply.copy(alloc).expect(rt, "memory");
+                add_reply(rt, &mut text, 0, reply);
+            }
+            Ok(Done::Folded(count)) => add_folded(rt, &mut text, *count),
+            Err(refusal) => add_refusal(rt, &mut text, refusal),
+        }
     }
-    writer.into_inner()
+    text
 }
 
 /// Runs jobs. It has no contract, so that no test carries the contract of `run_jobs`.

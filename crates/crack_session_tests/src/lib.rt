@@ -43,4 +43,6 @@ mod splits;
 #[cfg(test)]
 mod sums;
 #[cfg(test)]
+mod texts;
+#[cfg(test)]
 mod writes;

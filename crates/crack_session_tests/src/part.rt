@@ -55,7 +55,7 @@ fn partition_is_opened_empty(rt: HostRuntime) {
         life: GREATEST_LIFE,
         upkeep: Upkeep::OnRequest,
     };
-    assert!(rt; partition.limit() == GREATEST_LIMIT && partition.limits() == greatest);
+    assert!(rt; partition.limits() == greatest);
     let keys = partition.keys();
     assert_eq!(rt;
         [keys.low().number(), keys.high().number()],

@@ -1,19 +1,19 @@
 //! The plain table: each call once, with enough memory.
 use crate::desks::Refusing;
 use crate::scripts::{Lines, assert_answers};
-use crack_commands::write_each_row;
+use crate::texts::add_row;
 use crack_plain::PlainTable;
-use crack_row::{Refusal, Watched};
+use crack_row::Refusal;
 use crack_session::Desk;
 use std::alloc::Global;
 use std::process::Abort;
 
 /// The rows of a table, as a text without a line feed at its end.
 fn rows_of(rt: &impl Abort, alloc: Global, table: &PlainTable) -> Vec<u8> {
-    let mut writer = Watched::new(Vec::new(alloc));
-    let told = write_each_row(0, table.rows(), &mut writer);
-    assert!(rt; told.is_ok());
-    let mut text = writer.into_inner();
+    let mut text = Vec::new(alloc);
+    'rows: for row in table.rows() {
+        add_row(rt, &mut text, 0, row);
+    }
     let last = text.pop();
     assert!(rt; last == Some(b'\n'));
     text

@@ -6,7 +6,7 @@ use crack_arena::{Arena, Handle};
 use std::alloc::Global;
 use std::process::Abort;
 
-/// A step of a test on an arena of characters. A handle is given by its slot and its generation.
+/// A step of a test on an arena of characters. A handle that a put returned is given by its slot and its generation.
 #[derive(Clone, Copy)]
 enum Step {
     /// Puts a value, gets this handle, and reads the value by it.
@@ -135,16 +135,25 @@ const SCRIPTS: &[Script] = &[
     },
 ];
 
-/// The handle with these numbers, which must be small.
-fn named(slot: u32, generation: u64) -> Handle<char> {
-    match Handle::from_numbers(slot.min(9999), generation.min(9999)) {
-        Some(handle) => handle,
-        None => unreachable!(),
+/// The handle with these numbers, if a put returned it.
+fn named(handles: &[Handle<char>], slot: u32, generation: u64) -> Option<Handle<char>> {
+    'handles: for place in 0..handles.len() {
+        let handle = handles[place];
+        if handle.slot() == slot && handle.generation() == generation {
+            return Some(handle);
+        }
     }
+    None
 }
 
-/// Whether a put returns this handle, which reads the value and differs from a handle of another generation.
-fn puts(arena: &mut Arena<char>, value: char, slot: u32, generation: u64) -> bool {
+/// Whether a put returns this handle, which reads the value and differs from all earlier ones.
+fn puts(
+    arena: &mut Arena<char>,
+    handles: &mut Vec<Handle<char>>,
+    value: char,
+    slot: u32,
+    generation: u64,
+) -> bool {
     if arena.cells() >= 2000 {
         return false;
     }
@@ -156,14 +165,20 @@ fn puts(arena: &mut Arena<char>, value: char, slot: u32, generation: u64) -> boo
         handle.generation(),
         arena.get(handle).copied(),
     );
-    let earlier = named(slot, generation.wrapping_sub(1));
-    told == (slot, generation, Some(value)) && handle != earlier
+    let is_new = !handles.contains(&handle) && handles.push(handle).is_ok();
+    is_new && told == (slot, generation, Some(value))
 }
 
 /// Whether this many puts return the handles of new cells, from this slot on.
-fn fills(arena: &mut Arena<char>, value: char, slot: u32, count: u32) -> bool {
+fn fills(
+    arena: &mut Arena<char>,
+    handles: &mut Vec<Handle<char>>,
+    value: char,
+    slot: u32,
+    count: u32,
+) -> bool {
     for more in 0..count {
-        if !puts(arena, value, slot.saturating_add(more), 0) {
+        if !puts(arena, handles, value, slot.saturating_add(more), 0) {
             return false;
         }
     }
@@ -171,8 +186,32 @@ fn fills(arena: &mut Arena<char>, value: char, slot: u32, count: u32) -> bool {
 }
 
 /// Whether freeing the handle returns this value.
-fn frees(arena: &mut Arena<char>, handle: Handle<char>, value: Option<char>) -> bool {
+fn frees(arena: &mut Arena<char>, handle: Option<Handle<char>>, value: Option<char>) -> bool {
+    let Some(handle) = handle else {
+        return false;
+    };
     arena.freed() < 1000 && arena.free(handle) == value
+}
+
+/// Whether the handle reads this value.
+fn reads(arena: &Arena<char>, handle: Option<Handle<char>>, value: Option<char>) -> bool {
+    match handle {
+        Some(handle) => arena.get(handle).copied() == value,
+        None => false,
+    }
+}
+
+/// Whether setting the value of the handle returns this.
+fn sets(
+    arena: &mut Arena<char>,
+    handle: Option<Handle<char>>,
+    value: char,
+    given: Result<char, char>,
+) -> bool {
+    match handle {
+        Some(handle) => arena.set(handle, value) == given,
+        None => false,
+    }
 }
 
 /// The number of cells, of free cells, and of frees so far.
@@ -191,13 +230,13 @@ fn reserves_at_last(arena: &mut Arena<char>, additional: usize) -> bool {
 }
 
 /// Whether this many adjacent cells of generation 0, from the slot on, have the values that their handles read.
-fn lends(arena: &Arena<char>, slot: u32, len: u32) -> bool {
+fn lends(arena: &Arena<char>, handles: &[Handle<char>], slot: u32, len: u32) -> bool {
     let run = arena.cells_from(slot);
     let mut is_same = run.len() == len as usize && run.value_at(len as usize).is_none();
     for place in 0..len {
-        let handle = named(slot.saturating_add(place), 0);
+        let handle = named(handles, slot.saturating_add(place), 0);
         let value = run.value_at(place as usize).copied();
-        is_same = is_same && value == arena.get(handle).copied();
+        is_same = is_same && reads(arena, handle, value);
     }
     is_same
 }
@@ -220,23 +259,25 @@ fn puts_reserved(arena: &mut Arena<char>) -> bool {
 }
 
 /// Makes a step, and returns whether it had the expected result.
-fn make(arena: &mut Arena<char>, step: Step) -> bool {
+fn make(arena: &mut Arena<char>, handles: &mut Vec<Handle<char>>, step: Step) -> bool {
     match step {
-        Step::Put(value, slot, generation) => puts(arena, value, slot, generation),
-        Step::Fill(value, slot, count) => fills(arena, value, slot, count),
-        Step::Free(slot, generation, value) => frees(arena, named(slot, generation), value),
+        Step::Put(value, slot, generation) => puts(arena, handles, value, slot, generation),
+        Step::Fill(value, slot, count) => fills(arena, handles, value, slot, count),
+        Step::Free(slot, generation, value) => {
+            frees(arena, named(handles, slot, generation), value)
+        }
         Step::Read(slot, generation, value) => {
-            arena.get(named(slot, generation)).copied() == value
+            reads(arena, named(handles, slot, generation), value)
         }
         Step::Set(slot, generation, value, given) => {
-            arena.set(named(slot, generation), value) == given
+            sets(arena, named(handles, slot, generation), value, given)
         }
         Step::Look(cells, free, freed) => numbers(arena) == (cells, free, freed),
         Step::Reserve(additional) => arena.reserve(additional).is_ok(),
         Step::ReserveAtLast(additional) => reserves_at_last(arena, additional),
         Step::ReserveTooMany => arena.reserve(usize::MAX).is_err(),
         Step::PutReserved => puts_reserved(arena),
-        Step::CellsFrom(slot, len) => lends(arena, slot, len),
+        Step::CellsFrom(slot, len) => lends(arena, handles, slot, len),
     }
 }
 
@@ -244,10 +285,14 @@ fn make(arena: &mut Arena<char>, step: Step) -> bool {
 fn assert_script(rt: &impl Abort, alloc: Global, script: Script) {
     let Script { name, steps } = script;
     let mut arena = Arena::new(alloc);
+    let mut handles = Vec::new(alloc);
+    let has_room = handles.reserve(1000).is_ok() || handles.reserve(1000).is_ok();
+    assert!(rt; has_room);
     'steps: for place in 0..steps.len() {
-        let is_right = make(&mut arena, steps[place]);
+        let is_right = make(&mut arena, &mut handles, steps[place]);
         assert_at(rt, is_right, name, place);
     }
+    drop(handles);
     drop(arena);
 }
 

@@ -2,11 +2,11 @@
 //! steps over rows.
 ghost use Rattle.std.specs.Prelude.{◌<◌, length};
 ghost use Rattle.crack_arena.specs.Memories.{Agrees, Remembers};
-ghost use Rattle.crack_column.specs.Column.{first_aside};
+ghost use Rattle.crack_column.specs.Column.{StillRemembers, first_aside};
 
 use crate::index::bound_at;
 use crate::script::assert_at;
-use crack_arena::{Arena, Handle, Remembered, key_of};
+use crack_arena::{Arena, Handle, Remembered, Slot, key_of};
 use crack_column::CrackerColumn;
 use crack_row::{
     Bound, GREATEST_KEY, GREATEST_PAYLOAD, Key, KeyNumber, LEAST_PAYLOAD, Payload, PayloadNumber,
@@ -179,37 +179,51 @@ const SCRIPTS: &[Script] = &[
     },
 ];
 
-/// The handle of the row with this index in the list of rows, which must be short.
-pub(crate) fn row(place: u32) -> Handle<Row> {
-    match Handle::from_numbers(place.min(9999), 0) {
-        Some(handle) => handle,
-        None => unreachable!(),
-    }
+/// The handle of the row with this index in the list of rows, from that of the first row.
+pub(crate) fn row(first: Handle<Row>, place: u32) -> Handle<Row> {
+    Handle::new(Slot::lowest(place), first.generation_part())
 }
 
-/// Puts rows with these keys and payloads into the first cells of an arena.
+/// Puts a row with this key and payload into an arena.
+fn put(
+    rt: &impl Abort,
+    arena: &mut Arena<Row>,
+    place: usize,
+    (key, payload): (KeyNumber, PayloadNumber),
+) -> Handle<Row> {
+    let cells = arena.cells();
+    assert!(rt; cells < 1000);
+    let put = arena.put(Row {
+        serial: Serial(place as u64),
+        key: Key::from_number(key),
+        payload: Payload::from_number(payload),
+    });
+    put.ok().expect(rt, "memory")
+}
+
+/// Puts rows with these keys and payloads into the first cells of an arena. There must be one. Returns the handle of
+/// the first.
 pub(crate) fn put_all(
     rt: &impl Abort,
     arena: &mut Arena<Row>,
     rows: &[(KeyNumber, PayloadNumber)],
-) {
-    for place in 0..rows.len() {
-        let (key, payload) = rows[place];
-        let cells = arena.cells();
-        assert!(rt; cells < 1000);
-        let put = arena.put(Row {
-            serial: Serial(place as u64),
-            key: Key::from_number(key),
-            payload: Payload::from_number(payload),
-        });
-        assert!(rt; put.ok() == Some(row(cells as u32)));
+) -> Handle<Row> {
+    let numbers = rows.first().expect(rt, "a row");
+    let first = put(rt, arena, 0, *numbers);
+    for place in 1..rows.len() {
+        let handle = put(rt, arena, place, rows[place]);
+        assert!(rt; handle == row(first, place as u32));
     }
+    first
 }
 
-/// What is to be remembered of the row that the handle reads.
-fn memory(arena: &Arena<Row>, handle: Handle<Row>) -> Remembered
+/// What is to be remembered of the row that the handle reads, or nothing.
+fn memory(arena: &Arena<Row>, handle: Handle<Row>, knows: bool) -> Remembered
     ensures { Agrees arena.now.cells handle result }
 {
+    if !knows {
+        return Remembered::nothing();
+    }
     match arena.get(handle) {
         Some(row) => Remembered::of(*row),
         None => Remembered::nothing(),
@@ -225,7 +239,7 @@ fn append(arena: &Arena<Row>, column: &mut CrackerColumn, handle: Handle<Row>, k
         return false;
     }
     if knows {
-        column.append_remembered(handle, memory(arena, handle));
+        column.append_remembered(handle, memory(arena, handle, true));
     } else {
         column.append(handle);
     }
@@ -247,12 +261,8 @@ fn swaps(
     if place >= column.len() {
         return false;
     }
-    if knows {
-        let known = memory(arena, handle);
-        column.swap_in_remembered(place, handle, known).0 == out
-    } else {
-        column.swap_in(place, handle) == out
-    }
+    let known = memory(arena, handle, knows);
+    column.swap_in_remembered(place, handle, known).0 == out
 }
 
 /// Whether the bound is at this place after a crack of the stretch at it.
@@ -328,18 +338,31 @@ fn is_between(
     from <= to && to <= column.len() && column.place_between(from, to, handle) == place
 }
 
+/// Whether a pop returns this row.
+fn pops(column: &mut CrackerColumn, first: Handle<Row>, out: Option<u32>) -> bool
+    ensures remembered { StillRemembers column.old column.new }
+{
+    let popped = column.pop();
+    match out {
+        Some(place) => popped == Some(row(first, place)),
+        None => popped.is_none(),
+    }
+}
+
 /// Whether a column is as the step expects.
-fn looks(arena: &Arena<Row>, column: &CrackerColumn, step: Step) -> bool
+fn looks(arena: &Arena<Row>, column: &CrackerColumn, first: Handle<Row>, step: Step) -> bool
     requires remembered { Remembers arena.now.cells column.now.handles column.now.remembered }
 {
     let len = column.len();
     match step {
         Step::Len(count) => len == count && column.is_empty() == (count == 0),
         Step::At(place, at) => {
-            place < len && column.at(place) == row(at) && column.slot_at(place) == at
+            place < len && column.at(place) == row(first, at) && column.slot_at(place) == at
         }
-        Step::Place(of, place) => column.place_of(row(of)) == place,
-        Step::PlaceBetween(stretch, of, place) => is_between(column, stretch, row(of), place),
+        Step::Place(of, place) => column.place_of(row(first, of)) == place,
+        Step::PlaceBetween(stretch, of, place) => {
+            is_between(column, stretch, row(first, of), place)
+        }
         Step::Keys(places, keys) => has_keys(arena, column, places, keys),
         Step::Sum(stretch, sum) => sums(arena, column, stretch, sum),
         _ => false,
@@ -347,33 +370,46 @@ fn looks(arena: &Arena<Row>, column: &CrackerColumn, step: Step) -> bool
 }
 
 /// Makes a step, and returns whether it had the expected result.
-fn make(arena: &Arena<Row>, column: &mut CrackerColumn, step: Step) -> bool
+fn make(arena: &Arena<Row>, column: &mut CrackerColumn, first: Handle<Row>, step: Step) -> bool
     requires remembered { Remembers arena.now.cells column.old.handles column.old.remembered }
     ensures remembered { Remembers arena.now.cells column.new.handles column.new.remembered }
 {
     match step {
-        Step::Append(new, knows) => append(arena, column, row(new), knows),
+        Step::Append(new, knows) => append(arena, column, row(first, new), knows),
         Step::SwapIn(place, new, out, knows) => {
-            swaps(arena, column, place, row(new), row(out), knows)
+            swaps(
+                arena,
+                column,
+                place,
+                row(first, new),
+                row(first, out),
+                knows,
+            )
         }
-        Step::Pop(out) => column.pop() == out.map(row),
+        Step::Pop(out) => pops(column, first, out),
         Step::PopRemembered => column.pop_remembered().is_some(),
         Step::Crack(stretch, bound, place) => cracks(arena, column, stretch, bound, place),
         Step::CrackInThree(stretch, bounds, places) => {
             cracks_in_three(arena, column, stretch, bounds, places)
         }
-        _ => looks(arena, column, step),
+        _ => looks(arena, column, first, step),
     }
 }
 
 /// Asserts the result of each step.
-fn make_all(rt: &impl Abort, arena: &Arena<Row>, column: &mut CrackerColumn, script: Script)
+fn make_all(
+    rt: &impl Abort,
+    arena: &Arena<Row>,
+    column: &mut CrackerColumn,
+    first: Handle<Row>,
+    script: Script,
+)
     requires remembered { Remembers arena.now.cells column.old.handles column.old.remembered }
     ensures remembered { Remembers arena.now.cells column.new.handles column.new.remembered }
 {
     let Script { name, steps, .. } = script;
     'steps: for place in 0..steps.len() {
-        let is_right = make(arena, column, steps[place]);
+        let is_right = make(arena, column, first, steps[place]);
         assert_at(rt, is_right, name, place);
     }
 }
@@ -387,57 +423,57 @@ fn set_aside(rt: &impl Abort, arena: &Arena<Row>, column: &mut CrackerColumn, ha
 {
     let len = column.len();
     assert!(rt; len < 1000 && column.reserve(1).is_ok());
-    column.set_aside(handle, memory(arena, handle));
+    column.set_aside(handle, memory(arena, handle, true));
 }
 
 /// Sets the third of three rows aside, and exchanges it with the first, which is then appended and removed again.
-fn go_aside(rt: &impl Abort, arena: &Arena<Row>, column: &mut CrackerColumn)
+fn go_aside(rt: &impl Abort, arena: &Arena<Row>, column: &mut CrackerColumn, first: Handle<Row>)
     requires remembered { Remembers arena.now.cells column.old.handles column.old.remembered }
 {
-    set_aside(rt, arena, column, row(2));
+    set_aside(rt, arena, column, row(first, 2));
     let len = column.len();
     assert!(rt; len == 2);
     assert!(rt; column.aside_slot() == 2 && column.aside_key(arena).number() == 30);
     column.exchange(0);
-    assert!(rt; column.aside() == row(0) && sums(arena, column, [0, 2], 6));
+    assert!(rt; column.aside() == first && sums(arena, column, [0, 2], 6));
     column.append_aside();
     assert!(rt; sums(arena, column, [0, 3], 7));
     column.pop_aside();
-    assert!(rt; column.aside() == row(0) && column.len() == 2);
+    assert!(rt; column.aside() == first && column.len() == 2);
 }
 
 /// Takes the third of three rows in hand, exchanges it with both others, and releases the column.
-fn go_in_hand(rt: &impl Abort, arena: &Arena<Row>, column: &mut CrackerColumn)
+fn go_in_hand(rt: &impl Abort, arena: &Arena<Row>, column: &mut CrackerColumn, first: Handle<Row>)
     requires remembered { Remembers arena.now.cells column.old.handles column.old.remembered }
 {
-    set_aside(rt, arena, column, row(2));
+    set_aside(rt, arena, column, row(first, 2));
     let len = column.len();
     assert!(rt; len == 2);
     let mut held = column.hold();
     let lens = [column.len(), held.len()];
-    let third = held.slot();
+    let slot_of_third = held.slot();
     held.exchange(1);
-    let second = held.slot();
+    let slot_of_second = held.slot();
     let is_below = held.memory().is_known_below(Bound::from_number(11));
     held.exchange(0);
-    let first = held.slot();
+    let slot_of_first = held.slot();
     *column = held.release();
-    assert!(rt; lens == [0, 2] && is_below && column.aside() == row(0));
+    assert!(rt; lens == [0, 2] && is_below && column.aside() == first);
     let len = column.len();
     assert!(rt; len == 2 && column.slot_at(0) == 1 && column.slot_at(1) == 2);
-    assert!(rt; [third, second, first] == [2, 1, 0]);
+    assert!(rt; [slot_of_third, slot_of_second, slot_of_first] == [2, 1, 0]);
 }
 
 /// Asserts the result of each step in a fresh column over the rows of a script, and then makes its last one.
 fn assert_script(rt: &impl Abort, alloc: Global, script: Script) {
     let mut arena = Arena::new(alloc);
     let mut column = CrackerColumn::new(alloc);
-    put_all(rt, &mut arena, script.rows);
-    make_all(rt, &arena, &mut column, script);
+    let first = put_all(rt, &mut arena, script.rows);
+    make_all(rt, &arena, &mut column, first, script);
     match script.last {
         Last::Nothing => {}
-        Last::Aside => go_aside(rt, &arena, &mut column),
-        Last::InHand => go_in_hand(rt, &arena, &mut column),
+        Last::Aside => go_aside(rt, &arena, &mut column, first),
+        Last::InHand => go_in_hand(rt, &arena, &mut column, first),
     }
     drop(column);
     drop(arena);

@@ -99,10 +99,6 @@ fn neighbours_and_pieces_of_bounds(rt: HostRuntime) {
     ];
     let index = two(&rt, rt.alloc(), 15, 25);
     assert_pieces(&rt, &index, SIZES);
-    let next = [
-        placed(index.next_after(bound_at(15))),
-        placed(index.next_after(bound_at(25))),
-    ];
     let places = [index.position(bound_at(25)), index.position(bound_at(20))];
     let between = Piece {
         low: Some(bound_at(15)),
@@ -113,7 +109,7 @@ fn neighbours_and_pieces_of_bounds(rt: HostRuntime) {
     let piece = index.piece_of(key(15), 4);
     let len = index.len();
     drop(index);
-    assert!(rt; next == [Some((25, 2)), None] && places == [Some(2), None]);
+    assert!(rt; places == [Some(2), None]);
     assert!(rt; piece == between && len == 2);
 }
 
@@ -136,17 +132,14 @@ fn bounds_are_as_wide_as_keys(rt: HostRuntime) {
     assert!(rt; above == [Some((4294967296, 1)), Some((GREATEST_KEY, 2)), None]);
 }
 
-/// The places of the bounds 10, 20 and 30 after a bound and those at its place above it moved up, or it and those
-/// at its place below it moved down.
-fn shifted(rt: &impl Abort, alloc: Global, bound: InnerBound, raises: bool) -> [Option<usize>; 3] {
+/// The places of the bounds 10, 20 and 30 after this one and those at its place above it moved up.
+fn raised(rt: &impl Abort, alloc: Global, bound: KeyNumber) -> [Option<usize>; 3] {
     let mut index = tens(rt, alloc);
-    let place = index.position(bound).expect(rt, "the bound is there");
-    assert!(rt; 0 < place && place < 1000);
-    if raises {
-        index.raise_from(bound);
-    } else {
-        index.lower_to(bound);
-    }
+    let mark = index
+        .bound_below(key(bound))
+        .expect(rt, "the bound is there");
+    assert!(rt; mark.position < 1000);
+    index.raise_past(mark);
     let places = places(&index);
     drop(index);
     places
@@ -154,15 +147,14 @@ fn shifted(rt: &impl Abort, alloc: Global, bound: InnerBound, raises: bool) -> [
 
 #[test]
 fn bounds_at_one_place_move_together(rt: HostRuntime) {
-    let raised = shifted(&rt, rt.alloc(), bound_at(30), true);
-    let both = shifted(&rt, rt.alloc(), bound_at(20), true);
-    let lowered = shifted(&rt, rt.alloc(), bound_at(20), false);
+    let one = raised(&rt, rt.alloc(), 30);
+    let both = raised(&rt, rt.alloc(), 20);
     let mut index = tens(&rt, rt.alloc());
     index.lower_at(1);
     let at_one = places(&index);
     drop(index);
-    assert!(rt; raised == [Some(0), Some(1), Some(2)] && both == [Some(0), Some(2), Some(2)]);
-    assert!(rt; lowered == [Some(0), Some(0), Some(1)] && at_one == [Some(0), Some(0), Some(0)]);
+    assert!(rt; one == [Some(0), Some(1), Some(2)] && both == [Some(0), Some(2), Some(2)]);
+    assert!(rt; at_one == [Some(0), Some(0), Some(0)]);
 }
 
 #[test]
@@ -192,18 +184,6 @@ fn steps_up_go_from_place_to_place(rt: HostRuntime) {
     let places = places(&index);
     drop(index);
     assert!(rt; none.is_none() && places == [Some(1), Some(2), Some(2)]);
-}
-
-/// One step down: past the place of the bounds 20 and 30.
-#[test]
-fn a_step_down_goes_to_the_place_before(rt: HostRuntime) {
-    let mut index = tens(&rt, rt.alloc());
-    let thirty = index.bound_below(key(30)).expect(&rt, "a bound at 30");
-    assert!(rt; thirty.position == 1);
-    let ten = placed(index.lower_past(thirty));
-    let places = places(&index);
-    drop(index);
-    assert!(rt; ten == Some((10, 0)) && places == [Some(0), Some(0), Some(0)]);
 }
 
 /// A visitor that adds up the places it visits, and ends the walk at place number `at_most`.
@@ -246,6 +226,18 @@ fn a_walk_up_raises_what_it_passes(rt: HostRuntime) {
     drop(index);
     assert!(rt; end.is_none() && [visitor.told as usize, visitor.sum] == [1, 1]);
     assert!(rt; places == [Some(0), Some(2), Some(2)]);
+}
+
+/// The bound 30 stays, and the walk ends at the bound 10, which has no place before it.
+#[test]
+fn a_walk_down_lowers_what_it_passes(rt: HostRuntime) {
+    let mut index = tens(&rt, rt.alloc());
+    let mut visitor = ending_at(9);
+    let end = placed(index.descend(key(20), &mut visitor));
+    let places = places(&index);
+    drop(index);
+    assert!(rt; end == Some((10, 0)) && [visitor.told as usize, visitor.sum] == [1, 0]);
+    assert!(rt; places == [Some(0), Some(0), Some(1)]);
 }
 
 #[test]

@@ -319,15 +319,23 @@ fn make<Kind>(
     arena: &Arena<Row>,
     pending: &mut PendingList<Kind>,
     keys: &mut Vec<KeyNumber>,
+    first_row: Handle<Row>,
     step: Step,
 )
     requires { Remembers arena.now.cells pending.old.handles pending.old.remembered }
     ensures { Remembers arena.now.cells pending.new.handles pending.new.remembered }
 {
     match step {
-        Step::Push(cell, remembered) => push(rt, arena, pending, keys, row(cell), remembered),
+        Step::Push(cell, remembered) => push(
+            rt,
+            arena,
+            pending,
+            keys,
+            row(first_row, cell),
+            remembered,
+        ),
         Step::Take(place) => take(rt, arena, pending, keys, place),
-        Step::Strike(cell) => strike(rt, arena, pending, keys, row(cell)),
+        Step::Strike(cell) => strike(rt, arena, pending, keys, row(first_row, cell)),
         Step::TakeEach(low, high) => take_each(rt, arena, pending, keys, low, high),
         Step::TakeAll(low, high) => take_all(rt, arena, pending, keys, low, high),
         Step::Find(low, high) => assert_found(rt, arena, pending, keys, low, high),
@@ -342,6 +350,7 @@ fn make_all<Kind>(
     arena: &Arena<Row>,
     pending: &mut PendingList<Kind>,
     keys: &mut Vec<KeyNumber>,
+    first_row: Handle<Row>,
     steps: &[Step],
 )
     requires { Remembers arena.now.cells pending.old.handles pending.old.remembered }
@@ -352,7 +361,7 @@ fn make_all<Kind>(
             Step::AfterStrike(round, cell) => after_strike(round, cell, keys.len()),
             step => step,
         };
-        make(rt, arena, pending, keys, step);
+        make(rt, arena, pending, keys, first_row, step);
         assert_keys(rt, arena, pending, keys);
     }
 }
@@ -370,9 +379,9 @@ fn assert_steps<Kind: Drop>(
 {
     let mut arena = Arena::new(alloc);
     let mut keys = Vec::new(alloc);
-    put_all(rt, &mut arena, rows);
-    make_all(rt, &arena, &mut pending, &mut keys, first);
-    make_all(rt, &arena, &mut pending, &mut keys, steps);
+    let first_row = put_all(rt, &mut arena, rows);
+    make_all(rt, &arena, &mut pending, &mut keys, first_row, first);
+    make_all(rt, &arena, &mut pending, &mut keys, first_row, steps);
     drop(pending);
     drop(arena);
 }

@@ -77,11 +77,10 @@ fn listed_rows_are_copied(rt: HostRuntime) {
     let copied = list.copy(rt.alloc()).expect(&rt, "a copy");
     drop(list);
     assert!(rt; copied.as_slice() == rows.as_slice());
-    assert!(rt; copied.into_vec().len() == 2);
 }
 
 #[test]
-fn pieces_go_in_and_out(rt: HostRuntime) {
+fn pieces_are_listed(rt: HostRuntime) {
     let piece = PieceSize {
         low: Bound::from_number(0),
         high: Bound::from_number(15),
@@ -91,9 +90,6 @@ fn pieces_go_in_and_out(rt: HostRuntime) {
     assert!(rt; pieces.push(piece).is_ok());
     let list = PieceList::from_vec(pieces);
     assert!(rt; list.as_slice() == [piece].as_slice());
-    let given_back = list.into_vec();
-    assert!(rt; given_back.as_slice() == [piece].as_slice());
-    drop(given_back);
 }
 
 /// The range from a low end up to a high one.

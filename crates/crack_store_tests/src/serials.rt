@@ -5,7 +5,7 @@
 ghost use Rattle.std.specs.Prelude.{◌<◌};
 
 use crate::bulk::Numbers;
-use crack_arena::Handle;
+use crack_arena::{Arena, Generation, Handle, Slot};
 use crack_row::{Row, Serial};
 use crack_serials::Serials;
 use std::alloc::Global;
@@ -49,12 +49,20 @@ const CALLS: &[Calls] = &[
     },
 ];
 
-/// The handle of a slot below 10,000,000.
-fn named(slot: u32) -> Handle<Row> {
-    match Handle::from_numbers(slot.min(9_999_999), 0) {
-        Some(handle) => handle,
-        None => unreachable!(),
-    }
+/// The generation of cells that were never freed.
+fn first_generation(rt: &impl Abort, alloc: Global) -> Generation {
+    let mut arena = Arena::new(alloc);
+    let has_room = arena.reserve(1).is_ok() || arena.reserve(1).is_ok();
+    let cells = arena.cells();
+    assert!(rt; has_room && cells < 1000);
+    let put = arena.put('a').ok();
+    drop(arena);
+    put.expect(rt, "memory").generation_part()
+}
+
+/// The handle of a slot below 2^24, at this generation.
+fn named(slot: u32, generation: Generation) -> Handle<Row> {
+    Handle::new(Slot::lowest(slot), generation)
 }
 
 /// The slot of a handle, if there is one.
@@ -66,8 +74,8 @@ fn slot_of(handle: Option<Handle<Row>>) -> Option<u32> {
 }
 
 /// Sets the slot of a serial, and returns the one before.
-fn insert(rt: &impl Abort, serials: &mut Serials, serial: u64, slot: u32) -> Option<u32> {
-    let before = serials.insert(Serial(serial), named(slot));
+fn insert(rt: &impl Abort, serials: &mut Serials, serial: u64, handle: Handle<Row>) -> Option<u32> {
+    let before = serials.insert(Serial(serial), handle);
     slot_of(before.expect(rt, "memory"))
 }
 
@@ -82,12 +90,12 @@ fn forget(serials: &mut Serials, serial: u64) -> Option<u32> {
 }
 
 /// Sets the slot of a serial that is looked up first, and returns the one before; `None` if it isn't there.
-fn replace(serials: &mut Serials, serial: u64, slot: u32) -> Option<u32> {
+fn replace(serials: &mut Serials, serial: u64, handle: Handle<Row>) -> Option<u32> {
     let Some(lead) = serials.find(Serial(serial)) else {
         return None;
     };
     let before = lead.handle.slot();
-    serials.lead_to(lead, named(slot));
+    serials.lead_to(lead, handle);
     Some(before)
 }
 
@@ -121,9 +129,11 @@ fn call(
     numbers: &mut Numbers,
     serials: &mut Serials,
     tree: &mut BTreeMap<u64, u32>,
+    generation: Generation,
     serial: u64,
 ) -> bool {
     let slot = numbers.below(1_000_000) as u32;
+    let handle = named(slot, generation);
     let (told, expected) = match numbers.below(6) {
         0 => (
             slot_of(serials.remove(Serial(serial))),
@@ -131,11 +141,11 @@ fn call(
         ),
         1 => (forget(serials, serial), tree.remove(&serial)),
         2 => (
-            replace(serials, serial, slot),
+            replace(serials, serial, handle),
             replace_in(rt, tree, serial, slot),
         ),
         _ => (
-            insert(rt, serials, serial, slot),
+            insert(rt, serials, serial, handle),
             insert_in(rt, tree, serial, slot),
         ),
     };
@@ -147,12 +157,20 @@ fn assert_calls(rt: &impl Abort, alloc: Global, calls: Calls) {
     let mut serials = Serials::new(alloc);
     let mut tree = BTreeMap::new(alloc);
     let mut numbers = Numbers(calls.first);
+    let generation = first_generation(rt, alloc);
     let mut agree = true;
     'calls: for _ in 0..calls.calls {
         let serial = calls
             .first
             .wrapping_add(numbers.below(calls.serials.max(1)));
-        agree &= call(rt, &mut numbers, &mut serials, &mut tree, serial);
+        agree &= call(
+            rt,
+            &mut numbers,
+            &mut serials,
+            &mut tree,
+            generation,
+            serial,
+        );
     }
     let counts = [serials.len(), tree.len()];
     drop(serials);
@@ -179,12 +197,11 @@ fn lead_to_numbers(serials: &Serials, end: u32) -> bool {
 }
 
 /// Inserts the serials from `first` to `end` with their own numbers. Returns whether there was memory for each.
-fn insert_numbers(serials: &mut Serials, first: u32, end: u32) -> bool {
+fn insert_numbers(serials: &mut Serials, generation: Generation, first: u32, end: u32) -> bool {
     let mut all = true;
     'serials: for serial in first..end {
-        all &= serials
-            .insert(Serial(u64::from(serial)), named(serial))
-            .is_ok();
+        let handle = named(serial, generation);
+        all &= serials.insert(Serial(u64::from(serial)), handle).is_ok();
     }
     all
 }
@@ -193,7 +210,8 @@ fn insert_numbers(serials: &mut Serials, first: u32, end: u32) -> bool {
 #[test]
 fn maps_grow_and_refuse_what_no_memory_holds(rt: HostRuntime) {
     let mut serials = Serials::new(rt.alloc());
-    let is_in = insert_numbers(&mut serials, 0, 120_000);
+    let generation = first_generation(&rt, rt.alloc());
+    let is_in = insert_numbers(&mut serials, generation, 0, 120_000);
     let refused = serials.reserve_many(Serial(120_000), usize::MAX);
     let is_refused = refused.is_err();
     let are_right = lead_to_numbers(&serials, 120_000);
@@ -206,16 +224,19 @@ fn maps_grow_and_refuse_what_no_memory_holds(rt: HostRuntime) {
 #[test]
 fn sweep_insertions_of_serials(rt: HostRuntime) {
     let mut serials = Serials::new(rt.alloc());
+    let generation = first_generation(&rt, rt.alloc());
     let mut has_room = serials.reserve_many(Serial(0), 5000).is_ok();
     if !has_room {
         has_room = serials.len() == 0 && serials.reserve_many(Serial(0), 5000).is_ok();
     }
-    let is_in = insert_numbers(&mut serials, 0, 5000);
+    let is_in = insert_numbers(&mut serials, generation, 0, 5000);
     let mut has_place = serials.reserve(Serial(u64::MAX)).is_ok();
     if !has_place {
         has_place = serials.len() == 5000 && serials.reserve(Serial(u64::MAX)).is_ok();
     }
-    let is_last_in = serials.insert(Serial(u64::MAX), named(7)).is_ok();
+    let is_last_in = serials
+        .insert(Serial(u64::MAX), named(7, generation))
+        .is_ok();
     let are_right = lead_to_numbers(&serials, 5000);
     drop(serials);
     assert!(rt; has_room && is_in && has_place && is_last_in && are_right);

@@ -43,32 +43,17 @@ fn add(rt: &impl Abort, index: &mut CrackerIndex, marks: &mut Vec<Placed>, bound
     insert(rt, marks, (bound.number(), piece.from));
 }
 
-/// Moves the bound and those above it at its place up by one, in both.
-fn raise(rt: &impl Abort, index: &mut CrackerIndex, marks: &mut [Placed], bound: InnerBound) {
-    let Some(place) = index.position(bound) else {
+/// Moves the greatest bound at or below the key, and those above it at its place, up by one, in both.
+fn raise(rt: &impl Abort, index: &mut CrackerIndex, marks: &mut [Placed], key: KeyNumber) {
+    let Some(mark) = index.bound_below(Key::from_number(key)) else {
         return;
     };
+    let (bound, place) = (mark.bound.number(), mark.position);
     assert!(rt; place < 100000);
-    index.raise_from(bound);
+    index.raise_past(mark);
     'marks: for i in 0..marks.len() {
-        if marks[i].0 >= bound.number() && marks[i].1 == place {
+        if marks[i].0 >= bound && marks[i].1 == place {
             marks[i].1 = place + 1;
-        }
-    }
-}
-
-/// Moves the bound and those below it at its place down by one, in both.
-fn lower(index: &mut CrackerIndex, marks: &mut [Placed], bound: InnerBound) {
-    let Some(place) = index.position(bound) else {
-        return;
-    };
-    if place == 0 {
-        return;
-    }
-    index.lower_to(bound);
-    'marks: for i in 0..marks.len() {
-        if marks[i].0 <= bound.number() && marks[i].1 == place {
-            marks[i].1 = place - 1;
         }
     }
 }
@@ -123,10 +108,9 @@ fn call(rt: &impl Abort, alloc: Global, seed: u64) {
     'calls: for _ in 0..1000 {
         seed = next(seed);
         let key = ((seed >> 33) % 64) as KeyNumber;
-        match (seed >> 40) % 5 {
-            0 => raise(rt, &mut index, &mut marks, bound_at(key + 1)),
-            1 => lower(&mut index, &mut marks, bound_at(key + 1)),
-            2 => descend(&mut index, &mut marks, key, ((seed >> 50) % 4) as u32),
+        match (seed >> 40) % 4 {
+            0 => raise(rt, &mut index, &mut marks, key),
+            1 => descend(&mut index, &mut marks, key, ((seed >> 50) % 4) as u32),
             _ => add(rt, &mut index, &mut marks, bound_at(key + 1)),
         }
         assert_same(rt, &index, &marks);

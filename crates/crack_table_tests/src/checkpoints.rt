@@ -219,15 +219,7 @@ impl Trial for Case {
         workers: Vec<Worker<J>>,
     ) {
         let mut workers = workers;
-        assert_answers(
-            rt,
-            alloc,
-            &mut workers,
-            &table,
-            &OpenGate,
-            self.name,
-            self.script,
-        );
+        assert_answers(rt, &mut workers, &table, &OpenGate, self.name, self.script);
         workers.reverse();
         assert_totals(rt, alloc, table, workers, self.totals);
     }
@@ -303,7 +295,7 @@ impl Trial for Noted {
         let gate = Due::new();
         'scripts: for place in 0..NOTED.len() {
             let (script, noted) = NOTED[place];
-            assert_answers(rt, alloc, &mut workers, &table, &gate, "due", script);
+            assert_answers(rt, &mut workers, &table, &gate, "due", script);
             assert!(rt; gate.counts() == noted);
         }
         assert!(rt; gate.part.load(Ordering::SeqCst) == 1);

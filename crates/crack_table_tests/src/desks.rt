@@ -2,10 +2,10 @@
 use crate::gates::Shut;
 use crate::trials::{Opening, Trial, run_both};
 use crate::values::{GREATEST, HUNDRED, ONE, assert_totals, bounds, give_back};
-use crack_commands::write_refusal;
+use crack_commands::push_refusal;
 use crack_core::Core;
 use crack_row::{BoundNumber, GREATEST_LIMIT, Policy, Refusal, Watched};
-use crack_session::{Desk, End, How, serve};
+use crack_session::{Desk, End, How, Output, serve};
 use crack_table::{Gate, OpenGate, Table};
 use crack_witness::{Naming, Worker};
 use crack_worker_desk::WorkerDesk;
@@ -330,10 +330,9 @@ fn refusals_of_a_gathering_are_written_with_their_numbers(rt: HostRuntime) {
     let alloc: Global = rt.alloc();
     'refusals: for place in 0..REFUSALS.len() {
         let (refusal, line) = REFUSALS[place];
-        let mut writer = Watched::new(Vec::new(alloc));
-        let written = write_refusal(&refusal, &mut writer);
-        let text = writer.into_inner();
+        let mut text = Output::new();
+        push_refusal(&mut text, &refusal);
         let printed = format!(in alloc; "{refusal}\n").expect(&rt, "memory");
-        assert!(rt; written.is_ok() && text.as_slice() == line && printed.as_bytes() == line);
+        assert!(rt; text.as_slice() == line && printed.as_bytes() == line);
     }
 }

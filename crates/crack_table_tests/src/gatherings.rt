@@ -256,17 +256,9 @@ fn assert_case<J: Naming, R: Wait + Abort>(
     mut workers: Vec<Worker<J>>,
 ) {
     let name = case.name;
-    assert_answers(
-        rt,
-        alloc,
-        &mut workers,
-        &table,
-        &OpenGate,
-        name,
-        case.before,
-    );
+    assert_answers(rt, &mut workers, &table, &OpenGate, name, case.before);
     let (table, mut workers) = refused(rt, alloc, table, workers, case.first_lacks, refusal);
-    assert_answers(rt, alloc, &mut workers, &table, &OpenGate, name, case.after);
+    assert_answers(rt, &mut workers, &table, &OpenGate, name, case.after);
     drop(taken(rt, &mut workers, case.second_lacks));
     let end = end_of(alloc, table, workers);
     assert!(rt; end == case.end, "{name}");

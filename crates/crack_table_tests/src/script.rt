@@ -1,13 +1,16 @@
 //! Scripts: statements that workers ask a table, in order, each with its answer.
+ghost use Rattle.std.specs.Prelude.{◌+◌, ◌≤◌, length};
+
 use crate::values::ask;
 use crack_commands::{
-    Statement, parse_statement, write_folded, write_layout, write_refusal, write_reply,
+    LONGEST_TEXT, Statement, TEXT_BYTES, parse_statement, push_folded, push_layout_head,
+    push_piece, push_refusal,
 };
-use crack_row::{Command, Refusal, Watched};
+use crack_row::{Command, Layout, Refusal, Reply};
+use crack_session::rest::{append_reply, has_room};
+use crack_session::{OUTPUT_BYTES, Output};
 use crack_table::{Gate, Table};
 use crack_witness::{Naming, Worker};
-use std::alloc::Global;
-use std::io::Write;
 use std::process::Abort;
 use std::sync::Wait;
 
@@ -32,23 +35,55 @@ pub(crate) fn command_of(statement: Statement) -> Option<Command> {
     }
 }
 
-/// Has a worker ask a statement, and writes the answer unless it is a refusal.
-fn answer<J: Naming, R: Wait + Abort, G: Gate, W: Write>(
+/// Appends the text of a reply, which must fit.
+fn push_reply(rt: &impl Abort, part: u32, reply: Reply, out: &mut Output)
+    requires { length out.old.items + LONGEST_TEXT ≤ OUTPUT_BYTES }
+{
+    let rest = append_reply(part, reply, out).append(out);
+    assert!(rt; rest.is_nothing());
+}
+
+/// Appends the text of a layout, which must fit.
+fn push_layout(rt: &impl Abort, part: u32, layout: &Layout, out: &mut Output)
+    requires { length out.old.items + LONGEST_TEXT ≤ OUTPUT_BYTES }
+{
+    push_layout_head(out, part, layout);
+    'pieces: for piece in layout.pieces.as_slice() {
+        assert!(rt; has_room(out, TEXT_BYTES));
+        push_piece(out, piece);
+    }
+}
+
+/// Has a worker ask a statement, and returns the text of the answer unless it is a refusal.
+fn answer<J: Naming, R: Wait + Abort, G: Gate>(
     rt: &R,
     worker: &mut Worker<J>,
     table: &Table<J>,
     gate: &G,
     part: u32,
     statement: Statement,
-    writer: &mut Watched<W>,
-) -> Result<(), Refusal> {
+) -> Result<Output, Refusal> {
+    let mut out = Output::new();
     match statement {
-        Statement::Checkpoint(part) => write_folded(table.checkpoint(rt, part)?, writer),
-        Statement::Layout(part) => write_layout(part, &table.layout(rt, part)?, writer),
+        Statement::Checkpoint(part) => push_folded(&mut out, table.checkpoint(rt, part)?),
+        Statement::Layout(part) => push_layout(rt, part, &table.layout(rt, part)?, &mut out),
         _ => {
             let command = command_of(statement).expect(rt, "a command");
             let reply = ask(rt, worker, table, gate, part, command)?;
-            write_reply(part, &reply, writer)
+            push_reply(rt, part, reply, &mut out);
+        }
+    }
+    Ok(out)
+}
+
+/// The text of an answer or a refusal.
+fn text_of(answer: Result<Output, Refusal>) -> Output {
+    match answer {
+        Ok(text) => text,
+        Err(refusal) => {
+            let mut text = Output::new();
+            push_refusal(&mut text, &refusal);
+            text
         }
     }
 }
@@ -65,7 +100,6 @@ fn assert_text(rt: &impl Abort, text: &[u8], name: &str, line: &str, wanted: &st
 /// Asserts that a worker gets the wanted answer to a line of a test.
 pub(crate) fn assert_answer<J: Naming, R: Wait + Abort, G: Gate>(
     rt: &R,
-    alloc: Global,
     worker: &mut Worker<J>,
     table: &Table<J>,
     gate: &G,
@@ -75,17 +109,13 @@ pub(crate) fn assert_answer<J: Naming, R: Wait + Abort, G: Gate>(
     wanted: &str,
 ) {
     let statement = parse_statement(line.as_bytes()).expect(rt, "a statement");
-    let mut writer = Watched::new(Vec::new(alloc));
-    if let Err(refusal) = answer(rt, worker, table, gate, part, statement, &mut writer) {
-        assert!(rt; write_refusal(&refusal, &mut writer).is_ok());
-    }
-    assert_text(rt, &writer.into_inner(), name, line, wanted);
+    let text = text_of(answer(rt, worker, table, gate, part, statement));
+    assert_text(rt, text.as_slice(), name, line, wanted);
 }
 
 /// Asserts the answers that workers get with a gate.
 pub(crate) fn assert_answers<J: Naming, R: Wait + Abort, G: Gate>(
     rt: &R,
-    alloc: Global,
     workers: &mut Vec<Worker<J>>,
     table: &Table<J>,
     gate: &G,
@@ -97,6 +127,6 @@ pub(crate) fn assert_answers<J: Naming, R: Wait + Abort, G: Gate>(
         let Some(worker) = workers.get_mut(number) else {
             panic!(rt; "no such worker");
         };
-        assert_answer(rt, alloc, worker, table, gate, part, name, line, wanted);
+        assert_answer(rt, worker, table, gate, part, name, line, wanted);
     }
 }

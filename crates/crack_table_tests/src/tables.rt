@@ -46,7 +46,7 @@ impl Trial for AtShut {
     ) {
         let mut workers = workers;
         let gate = Shut::new(Some(self.part));
-        assert_answers(rt, alloc, &mut workers, &table, &gate, "shut", self.script);
+        assert_answers(rt, &mut workers, &table, &gate, "shut", self.script);
         assert!(rt;
             gate.asked.load(Ordering::SeqCst) == 1000 && gate.is_orderly.load(Ordering::SeqCst)
         );
@@ -86,17 +86,7 @@ impl Trial for InTurn {
             let wanted = if part == shut { "refused 7" } else { "count 0" };
             let gate = Shut::new(Some(shut));
             let line = "count 0 18446744073709551616";
-            assert_answer(
-                rt,
-                alloc,
-                &mut worker,
-                &table,
-                &gate,
-                part,
-                "shut",
-                line,
-                wanted,
-            );
+            assert_answer(rt, &mut worker, &table, &gate, part, "shut", line, wanted);
         }
         give_back(rt, &mut workers, worker);
         assert_totals(rt, alloc, table, workers, [12, 0, 0, 0]);

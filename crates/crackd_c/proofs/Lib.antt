@@ -1,4 +1,3 @@
 pub mod AsBox
 pub mod CallLaws
-pub mod Crosses
 pub mod PieceLaws

@@ -1,12 +1,19 @@
 //! Questions and answers as lines: a statement, and then the lines of its reply. Refused with `WriteFault` if the
 //! writer fails.
 
-use crack_commands::{send, write_folded, write_refusal, write_reply, write_row};
+use arrayvec::ArrayVec;
+use crack_commands::{
+    LONGEST_TEXT, push, push_count, push_folded, push_gone, push_head, push_placed, push_refusal,
+    push_row, push_sum, send,
+};
 use crack_part::Partition;
 use crack_row::{Command, Key, KeyRange, Payload, Refusal, Reply, Row, Watched};
 use crack_witness::Receipt;
 use std::io;
 use std::io::Write;
+
+/// A text without rows, or the line of one row.
+type Text = ArrayVec<u8, LONGEST_TEXT>;
 
 /// The outcome of writing, as a refusal.
 pub fn written(line: io::Result<()>) -> Result<(), Refusal> {
@@ -60,6 +67,49 @@ fn write_query<W: Write>(
 ) -> Result<(), Refusal> {
     let (low, high) = (range.low().number(), range.high().number());
     written(writeln!(writer, "{name} {low} {high}"))
+}
+
+fn write_row<W: Write>(part: u32, row: &Row, writer: &mut Watched<W>) -> Result<(), Refusal> {
+    let mut text = Text::new();
+    push_row(&mut text, part, row);
+    send(writer, text.as_slice())
+}
+
+/// Writes the number of rows, and then a line for each row.
+fn write_rows<W: Write>(part: u32, rows: &[Row], writer: &mut Watched<W>) -> Result<(), Refusal> {
+    let mut text = Text::new();
+    push_head(&mut text, rows.len() as u64);
+    send(writer, text.as_slice())?;
+    'rows: for row in rows {
+        write_row(part, row, writer)?;
+    }
+    Ok(())
+}
+
+fn write_reply<W: Write>(part: u32, reply: &Reply, writer: &mut Watched<W>) -> Result<(), Refusal> {
+    let mut text = Text::new();
+    match reply {
+        Reply::Placed(serial) => push_placed(&mut text, part, *serial),
+        Reply::Gone(row) => push_gone(&mut text, row),
+        Reply::Changed => push(&mut text, b"changed\n"),
+        Reply::NoRow => push(&mut text, b"none\n"),
+        Reply::Counted(count) => push_count(&mut text, *count),
+        Reply::Summed(sum) => push_sum(&mut text, *sum),
+        Reply::Rows(rows) => return write_rows(part, rows.as_slice(), writer),
+    }
+    send(writer, text.as_slice())
+}
+
+fn write_refusal<W: Write>(refusal: &Refusal, writer: &mut Watched<W>) -> Result<(), Refusal> {
+    let mut text = Text::new();
+    push_refusal(&mut text, refusal);
+    send(writer, text.as_slice())
+}
+
+fn write_folded<W: Write>(folded: u64, writer: &mut Watched<W>) -> Result<(), Refusal> {
+    let mut text = Text::new();
+    push_folded(&mut text, folded);
+    send(writer, text.as_slice())
 }
 
 /// Writes a number, a command to a partition, and the answer.

@@ -15,7 +15,7 @@ returns-then-unread-eq0-clause-kept c = IsPermutation-map forgotten (tags_of c.a
 pub returns-then-unread-eq0-clause-read : goal.returns-then-unread-eq0-clause-read
 returns-then-unread-eq0-clause-read c =
     let none : times unknown (map remembered_key (tags_of c.args.labels.now c.args.payloads.now)) ≡ 0 = omega (arith, c.requires.unread, c.if-unread-eq0.true) in
-    All-permutation (Read c.args.arena.now.cells c.args.generations.now) (tags_of c.args.labels.now c.args.payloads.now) (tags_of c.divide_three-middle.new.labels c.divide_three-middle.new.payloads) c.divide_three-middle.ensures.kept (all_read c.args.arena.now.cells c.args.generations.now (tags_of c.args.labels.now c.args.payloads.now) none c.requires.known)
+    All-permutation (Read c.args.arena.now.cells) (tags_of c.args.labels.now c.args.payloads.now) (tags_of c.divide_three-middle.new.labels c.divide_three-middle.new.payloads) c.divide_three-middle.ensures.kept (all_read c.args.arena.now.cells (tags_of c.args.labels.now c.args.payloads.now) none c.requires.known)
 
 pub returns-then-unread-eq0-clause-fewer : goal.returns-then-unread-eq0-clause-fewer
 returns-then-unread-eq0-clause-fewer c =
@@ -27,7 +27,7 @@ returns-clause-kept c =
 
 pub returns-clause-read : goal.returns-clause-read
 returns-clause-read c =
-    All-permutation (Read c.args.arena.now.cells c.args.generations.now) (tags_of c.learn-learned.new.labels c.learn-learned.new.payloads) (tags_of c.divide_three-middle-2.new.labels c.divide_three-middle-2.new.payloads) c.divide_three-middle-2.ensures.kept c.learn-learned.ensures.read
+    All-permutation (Read c.args.arena.now.cells) (tags_of c.learn-learned.new.labels c.learn-learned.new.payloads) (tags_of c.divide_three-middle-2.new.labels c.divide_three-middle-2.new.payloads) c.divide_three-middle-2.ensures.kept c.learn-learned.ensures.read
 
 pub returns-clause-fewer : goal.returns-clause-fewer
 returns-clause-fewer c =

@@ -4,4 +4,4 @@ use Rattle.crack_column.specs.Inside.{label_handle}
 use Rattle.crack_column.proofs.tag.find.Given as goal
 
 abbrev pub invariant-tags : goal.invariant-tags
-invariant-tags l = (k : ℕ) → k < l.i → ¬ StandsAt (map (label_handle l.generations) l.labels) k l.handle
+invariant-tags l = (k : ℕ) → k < l.i → ¬ StandsAt (map label_handle l.labels) k l.handle

@@ -1,9 +1,9 @@
 use mir.Val.{bool_byte}
-use Rattle.std.proofs.Common.{◌≡◌, ◌<◌, ◌≤◌, ◌+◌, inl, inr, length, arith, refl, get_or, nat_lt}
+use Rattle.std.proofs.Common.{◌≡◌, ◌<◌, ◌≤◌, ◌+◌, inl, inr, length, arith, refl, sym, get_or, nat_lt}
 use Rattle.std.proofs.lemmas.Bool.{cases_lt, lt-ltb, le-ltb}
 use Rattle.crack_column.specs.Inside.{no_tag}
 use Rattle.crack_column.specs.Labels.{tag_of, tags_of}
-use Rattle.crack_column.proofs.LabelLaws.{no_label, length-tags_of, get_or-tags_of}
+use Rattle.crack_column.proofs.LabelLaws.{length-tags_of, same_read, tag_at}
 use Rattle.crack_column.proofs.Sifting.{IsSifting-start, IsSifting-above, IsSifting-below, IsSifted-all}
 use Rattle.crack_column.proofs.tag.sift.Goals.{then-labels-gap, else-labels-gap}
 use Rattle.crack_column.proofs.tag.sift.Goals as goal
@@ -34,11 +34,15 @@ tags-preserved c =
     let gap = c.tags.gap in
     let low = c.tags.low in
     let beside : length ps ≡ length ls = omega (arith, c.requires.beside) in
-    let next = tag_of (get_or ls gap no_label) (get_or ps gap no_tag.payload) in
-    let is = get_or-tags_of ls ps gap beside in
+    let label = get_or ls gap c.index-labels-gap.result in
+    let next = tag_of label (get_or ps gap no_tag.payload) in
+    let there : gap < length ls = omega (arith, c.tags-test.true) in
+    let is = tag_at ls ps gap c.index-labels-gap.result beside there in
     let inside : gap < length was = omega (arith, c.tags-test.true, length-tags_of c.args.labels.now c.args.payloads.now c.requires.beside) in
     elim c.if-labels-gap.branch [
-      | then-labels-gap w ↦ rw (w.labels-is, w.payloads-is, w.low-is, w.moved-is) (rw w.shift.ensures (IsSifting-below c.args.bound was (tags_of ls ps) c.args.from gap low c.tags.moved next inside is c.tags.invariant (bool_byte (nat_lt low gap)) w.if-labels-gap.true (λ l. rw (lt-ltb low gap l) refl) (λ l. rw (le-ltb low gap l) refl)))
+      | then-labels-gap w ↦
+          let same = sym (same_read ls gap c.index-labels-gap.result w.index-labels-gap-then-labels-gap.result there w.index-labels-gap-then-labels-gap.is) in
+          rw (w.labels-is, w.payloads-is, w.low-is, w.moved-is) (rw (w.shift.ensures, same) (IsSifting-below c.args.bound was (tags_of ls ps) c.args.from gap low c.tags.moved next inside is c.tags.invariant (bool_byte (nat_lt low gap)) w.if-labels-gap.true (λ l. rw (lt-ltb low gap l) refl) (λ l. rw (le-ltb low gap l) refl)))
       | else-labels-gap w ↦ rw (w.labels-is, w.payloads-is, w.low-is, w.moved-is) (IsSifting-above c.args.bound was (tags_of ls ps) c.args.from gap low c.tags.moved next inside is c.tags.invariant w.if-labels-gap.false)
     ]
 

@@ -12,10 +12,9 @@ use Rattle.crack_column.proofs.tag.sum.Goals as goal
 pub returns-then-unread-eq0-clause-value : goal.returns-then-unread-eq0-clause-value
 returns-then-unread-eq0-clause-value c =
     let cells = c.args.arena.now.cells in
-    let gs = c.args.generations.now in
     let ts = tags_of c.args.labels.now c.args.payloads.now in
     let none : times unknown (map remembered_key ts) ≡ 0 = omega (arith, c.requires.unread, c.if-unread-eq0.true) in
-    to_z-of_z w128 c.sum_remembered.result (fits_signed_from_abs w128 c.sum_remembered.result (omega (arith, ints, c.sum_remembered.ensures.least, c.sum_remembered.ensures.most, c.requires.few, c.requires.beside))) ∙ c.sum_remembered.ensures.value ∙ total-tags_of c.args.labels.now c.args.payloads.now c.requires.beside ∙ sum_all cells gs ts (all_read cells gs ts none c.requires.known)
+    to_z-of_z w128 c.sum_remembered.result (fits_signed_from_abs w128 c.sum_remembered.result (omega (arith, ints, c.sum_remembered.ensures.least, c.sum_remembered.ensures.most, c.requires.few, c.requires.beside))) ∙ c.sum_remembered.ensures.value ∙ total-tags_of c.args.labels.now c.args.payloads.now c.requires.beside ∙ sum_all cells ts (all_read cells ts none c.requires.known)
 
 pub returns-then-unread-eq0-clause-small : goal.returns-then-unread-eq0-clause-small
 returns-then-unread-eq0-clause-small c =

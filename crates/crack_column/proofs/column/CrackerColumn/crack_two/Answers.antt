@@ -2,56 +2,56 @@ use Rattle.std.proofs.Common.{◌≡◌, ◌≤◌, ◌+◌, length, take, arith
 use Rattle.crack_arena.specs.Memories.{Remembers}
 use Rattle.crack_column.specs.Column.{Cracks}
 use Rattle.crack_column.proofs.Cracking.{Cracks-remembers, length-Cracks}
-use Rattle.crack_column.specs.Tickets.{handles_in, remembered_in}
-use Rattle.crack_column.specs.Keeps.{AreDrawn, unread_in}
+use Rattle.crack_column.specs.Places.{handles_in, remembered_in}
+use Rattle.crack_column.specs.Keeps.{unread_in}
 use Rattle.crack_column.specs.Inside.{Turns}
-use Rattle.crack_column.proofs.TicketLaws.{length-in, Knows-Remembers, AreDrawn-Turns, Cracks-Turns, length-Turns, aside-Turns, unread-Turns, unread-between}
+use Rattle.crack_column.proofs.PlaceLaws.{length-in, Knows-Remembers, Cracks-Turns, length-Turns, aside-Turns, unread-Turns, unread-between}
 use Rattle.crack_column.proofs.column.CrackerColumn.crack_two.Goals as goal
-use Rattle.crack_column.proofs.column.CrackerColumn.crack_two.Goals.{After-deref, After-crack_between-place}
+use Rattle.crack_column.proofs.column.CrackerColumn.crack_two.Goals.{After-self, After-crack_between-place}
 
-end_len : (c : After-deref) → c.args.to ≤ c.self.inside.len
+end_len : (c : After-self) → c.args.to ≤ c.self.inside.len
 end_len c =
     let within = rw (← c.self.view_is) at c.requires.within in
-    omega (arith, within, length-in c.self.inside.generations.items c.self.inside.tags.items c.self.inside.len c.self.invariant.are.within)
+    omega (arith, within, length-in c.self.inside.tags.items c.self.inside.len c.self.invariant.within)
 
-remembers : (c : After-deref) → Remembers c.args.arena.now.cells (handles_in c.self.inside.generations.items c.self.inside.tags.items c.self.inside.len) (remembered_in c.self.inside.tags.items c.self.inside.len)
+remembers : (c : After-self) → Remembers c.args.arena.now.cells (handles_in c.self.inside.tags.items c.self.inside.len) (remembered_in c.self.inside.tags.items c.self.inside.len)
 remembers c = rw (← c.self.view_is) at c.requires.remembered
 
-turned : (c : After-crack_between-place) → Turns c.args.arena.now.cells c.self.inside.generations.items c.args.bound.0 c.args.from c.args.to c.self.inside.tags.items c.crack_between-place.new.self.items c.crack_between-place.result.0 c.crack_between-place.result.1
-turned c = rw (c.deref.ensures.value) at c.crack_between-place.ensures.turned
+turned : (c : After-crack_between-place) → Turns c.args.arena.now.cells c.args.bound.0 c.args.from c.args.to c.self.inside.tags.items c.crack_between-place.new.self.items c.crack_between-place.result.0 c.crack_between-place.result.1
+turned c = c.crack_between-place.ensures.turned
 
-cracked : (c : After-crack_between-place) → Cracks c.args.arena.now.cells c.args.bound.0 c.args.from c.args.to (handles_in c.self.inside.generations.items c.self.inside.tags.items c.self.inside.len) (remembered_in c.self.inside.tags.items c.self.inside.len) (handles_in c.self.inside.generations.items c.crack_between-place.new.self.items c.self.inside.len) (remembered_in c.crack_between-place.new.self.items c.self.inside.len) c.crack_between-place.result.0
+cracked : (c : After-crack_between-place) → Cracks c.args.arena.now.cells c.args.bound.0 c.args.from c.args.to (handles_in c.self.inside.tags.items c.self.inside.len) (remembered_in c.self.inside.tags.items c.self.inside.len) (handles_in c.crack_between-place.new.self.items c.self.inside.len) (remembered_in c.crack_between-place.new.self.items c.self.inside.len) c.crack_between-place.result.0
 cracked c =
-    Cracks-Turns c.args.arena.now.cells c.self.inside.generations.items c.args.bound.0 c.args.from c.args.to c.self.inside.tags.items c.crack_between-place.new.self.items c.crack_between-place.result.0 c.crack_between-place.result.1 c.self.inside.len c.self.invariant.are c.requires.order (end_len c.before) (turned c)
+    Cracks-Turns c.args.arena.now.cells c.args.bound.0 c.args.from c.args.to c.self.inside.tags.items c.crack_between-place.new.self.items c.crack_between-place.result.0 c.crack_between-place.result.1 c.self.inside.len c.self.invariant.within c.requires.order (end_len c.before.before) (turned c)
 
 -- what became known was unknown
 learned : (c : After-crack_between-place) → unread_in (take c.self.inside.len c.crack_between-place.new.self.items) + c.crack_between-place.result.1 ≡ c.self.inside.unread
 learned c =
-    let same = unread-Turns c.args.arena.now.cells c.self.inside.generations.items c.args.bound.0 c.args.from c.args.to c.self.inside.tags.items c.crack_between-place.new.self.items c.crack_between-place.result.0 c.crack_between-place.result.1 c.self.inside.len c.self.invariant.are c.requires.order (end_len c.before) (turned c) in
+    let same = unread-Turns c.args.arena.now.cells c.args.bound.0 c.args.from c.args.to c.self.inside.tags.items c.crack_between-place.new.self.items c.crack_between-place.result.0 c.crack_between-place.result.1 c.self.inside.len c.self.invariant.within c.requires.order (end_len c.before.before) (turned c) in
     omega (arith, same, c.self.invariant.counted)
-
-drawn : (c : After-crack_between-place) → AreDrawn c.self.inside.generations.items c.crack_between-place.new.self.items c.self.inside.len
-drawn c =
-    AreDrawn-Turns c.args.arena.now.cells c.self.inside.generations.items c.args.bound.0 c.args.from c.args.to c.self.inside.tags.items c.crack_between-place.new.self.items c.crack_between-place.result.0 c.crack_between-place.result.1 c.self.inside.len c.self.invariant.are c.requires.order (end_len c.before) (turned c)
 
 long : (c : After-crack_between-place) → length c.crack_between-place.new.self.items ≡ length c.self.inside.tags.items
 long c =
-    length-Turns c.args.arena.now.cells c.self.inside.generations.items c.args.bound.0 c.args.from c.args.to c.self.inside.tags.items c.crack_between-place.new.self.items c.crack_between-place.result.0 c.crack_between-place.result.1 c.self.inside.len c.self.invariant.are c.requires.order (end_len c.before) (turned c)
+    length-Turns c.args.arena.now.cells c.args.bound.0 c.args.from c.args.to c.self.inside.tags.items c.crack_between-place.new.self.items c.crack_between-place.result.0 c.crack_between-place.result.1 c.self.inside.len c.self.invariant.within c.requires.order (end_len c.before.before) (turned c)
 
 pub crack_between-place-requires-clause-known : goal.crack_between-place-requires-clause-known
 crack_between-place-requires-clause-known c =
-    rw (c.deref.ensures.value) (Knows-Remembers c.args.arena.now.cells c.self.inside.generations.items c.self.inside.tags.items c.self.inside.len c.args.from c.args.to c.self.invariant.are.within (end_len c) (remembers c))
+    Knows-Remembers c.args.arena.now.cells c.self.inside.tags.items c.self.inside.len c.args.from c.args.to c.self.invariant.within (end_len c.before) (remembers c.before)
 
 pub crack_between-place-requires-clause-unread : goal.crack_between-place-requires-clause-unread
 crack_between-place-requires-clause-unread c =
-    let few = unread-between c.self.inside.tags.items c.self.inside.len c.args.from c.args.to c.self.invariant.are.within c.requires.order (end_len c) in
+    let few = unread-between c.self.inside.tags.items c.self.inside.len c.args.from c.args.to c.self.invariant.within c.requires.order (end_len c.before) in
     omega (arith, few, c.self.invariant.counted)
 
 pub overflow_sub-self : goal.overflow_sub-self
 overflow_sub-self c = omega (arith, learned c)
 
 pub invariant_of-self : goal.invariant_of-self
-invariant_of-self c = record { are = drawn c.before; counted = omega (arith, learned c.before) }
+invariant_of-self c = record {
+  within = omega (arith, long (c.before), c.self.invariant.within);
+  few = omega (arith, long (c.before), c.self.invariant.few);
+  counted = omega (arith, learned (c.before));
+}
 
 pub returns-clause-cracked : goal.returns-clause-cracked
 returns-clause-cracked c = rw (← c.self.view_is) (cracked c.before)
@@ -65,8 +65,8 @@ returns-clause-room c = rw (← c.self.view_is, long c.before, c.crack_between-p
 
 pub returns-clause-aside : goal.returns-clause-aside
 returns-clause-aside c =
-    rw (← c.self.view_is) (aside-Turns c.args.arena.now.cells c.self.inside.generations.items c.args.bound.0 c.args.from c.args.to c.self.inside.tags.items c.crack_between-place.new.self.items c.crack_between-place.result.0 c.crack_between-place.result.1 c.self.inside.len c.self.invariant.are c.requires.order (end_len c.before.before) (turned c.before))
+    rw (← c.self.view_is) (aside-Turns c.args.arena.now.cells c.args.bound.0 c.args.from c.args.to c.self.inside.tags.items c.crack_between-place.new.self.items c.crack_between-place.result.0 c.crack_between-place.result.1 c.self.inside.len c.self.invariant.within c.requires.order (end_len c.before.before.before) (turned c.before))
 
 pub returns-clause-remembered : goal.returns-clause-remembered
 returns-clause-remembered c =
-    Cracks-remembers c.args.arena.now.cells c.args.bound.0 c.args.from c.args.to _ _ _ _ c.crack_between-place.result.0 (cracked c.before) (remembers c.before.before)
+    Cracks-remembers c.args.arena.now.cells c.args.bound.0 c.args.from c.args.to _ _ _ _ c.crack_between-place.result.0 (cracked c.before) (remembers c.before.before.before)

@@ -1,4 +1,4 @@
-use Rattle.std.proofs.Common.{◌≡◌, ◌≤◌, ◌<◌, length, All, refl, arith}
+use Rattle.std.proofs.Common.{◌≡◌, ◌≤◌, length, All, refl, arith}
 use Rattle.std.specs.List.{between}
 use Rattle.std.proofs.lemmas.List.{length-map}
 use Rattle.std.proofs.lemmas.List.Edits.{length-between}
@@ -6,7 +6,6 @@ use Rattle.crack_column.specs.Keeps.{remembered_key, unread_in}
 use Rattle.crack_column.specs.Inside.{Knows}
 use Rattle.crack_column.specs.Labels.{tags_of}
 use Rattle.crack_column.proofs.LabelLaws.{length-tags_of, between-tags_of, Turns-parts}
-use Rattle.crack_column.proofs.TicketLaws.{drawn-between}
 use Rattle.crack_column.proofs.tags.Tags.crack_between.Goals as goal
 
 pub offset_bounds-deref_mut-from : goal.offset_bounds-deref_mut-from
@@ -29,15 +28,9 @@ slice_bounds-crack-end-2 c =
     let within : c.args.to ≤ length c.args.self.now.items = c.requires.within in
     omega (arith, rw (← c.self.view_is) at within, length-tags_of c.self.inside.labels.items c.self.inside.payloads.items c.self.invariant, c.self.invariant, c.requires.order)
 
-pub crack-place-requires-clause-drawn : goal.crack-place-requires-clause-drawn
-crack-place-requires-clause-drawn c =
-    let within : c.args.to ≤ length c.args.self.now.items = c.requires.within in
-    let all : All (λ t. t.ticket < length c.args.generations.now) c.args.self.now.items = c.requires.drawn in
-    rw (c.deref_mut.ensures.value, c.deref_mut-2.ensures.value, between-tags_of c.args.from c.args.to c.self.inside.labels.items c.self.inside.payloads.items) (drawn-between c.args.generations.now (tags_of c.self.inside.labels.items c.self.inside.payloads.items) c.args.from c.args.to (rw (← c.self.view_is) at within) (rw (← c.self.view_is) at all))
-
 pub crack-place-requires-clause-known : goal.crack-place-requires-clause-known
 crack-place-requires-clause-known c =
-    let known : All (Knows c.args.arena.now.cells c.args.generations.now) (between c.args.from c.args.to c.args.self.now.items) = c.requires.known in
+    let known : All (Knows c.args.arena.now.cells) (between c.args.from c.args.to c.args.self.now.items) = c.requires.known in
     rw (c.deref_mut.ensures.value, c.deref_mut-2.ensures.value, between-tags_of c.args.from c.args.to c.self.inside.labels.items c.self.inside.payloads.items) (rw (← c.self.view_is) at known)
 
 pub crack-place-requires-clause-unread : goal.crack-place-requires-clause-unread
@@ -58,7 +51,7 @@ returns-clause-turned c =
     let ps = c.self.inside.payloads.items in
     let within : c.args.to ≤ length c.args.self.now.items = c.requires.within in
     let end : c.args.to ≤ length ls = omega (arith, rw (← c.self.view_is) at within, length-tags_of ls ps c.self.invariant) in
-    rw (← c.self.view_is, c.deref_mut.ensures.value, c.deref_mut-2.ensures.value) (Turns-parts c.args.arena.now.cells c.args.generations.now c.args.bound.0 c.args.from c.args.to ls c.crack-place.new.labels ps c.crack-place.new.payloads _ _ c.crack-place.result.0 c.crack-place.result.1 c.requires.order end c.self.invariant (omega arith) (omega arith) (omega (arith, c.crack-place.auto.labels, c.deref_mut.ensures.len, end, length-between ls c.args.from c.args.to end)) (omega (arith, c.crack-place.auto.payloads, c.deref_mut-2.ensures.len, end, c.self.invariant)) (rw (c.deref_mut.ensures.value, c.deref_mut-2.ensures.value) at c.crack-place.ensures.kept) c.crack-place.ensures.read c.crack-place.ensures.divided (rw (c.deref_mut.ensures.value, c.deref_mut-2.ensures.value) at c.crack-place.ensures.fewer))
+    rw (← c.self.view_is, c.deref_mut.ensures.value, c.deref_mut-2.ensures.value) (Turns-parts c.args.arena.now.cells c.args.bound.0 c.args.from c.args.to ls c.crack-place.new.labels ps c.crack-place.new.payloads _ _ c.crack-place.result.0 c.crack-place.result.1 c.requires.order end c.self.invariant (omega arith) (omega arith) (omega (arith, c.crack-place.auto.labels, c.deref_mut.ensures.len, end, length-between ls c.args.from c.args.to end)) (omega (arith, c.crack-place.auto.payloads, c.deref_mut-2.ensures.len, end, c.self.invariant)) (rw (c.deref_mut.ensures.value, c.deref_mut-2.ensures.value) at c.crack-place.ensures.kept) c.crack-place.ensures.read c.crack-place.ensures.divided (rw (c.deref_mut.ensures.value, c.deref_mut-2.ensures.value) at c.crack-place.ensures.fewer))
 
 pub returns-clause-capacity : goal.returns-clause-capacity
 returns-clause-capacity c = rw (← c.self.view_is) refl

@@ -1,4 +1,4 @@
-use Rattle.std.proofs.Common.{◌≡◌, ◌≤◌, ◌<◌, length, All, refl, arith}
+use Rattle.std.proofs.Common.{◌≡◌, ◌≤◌, length, All, refl, arith}
 use Rattle.std.specs.List.{between}
 use Rattle.std.proofs.lemmas.List.{length-map}
 use Rattle.std.proofs.lemmas.List.Edits.{length-between}
@@ -6,7 +6,6 @@ use Rattle.crack_column.specs.Keeps.{remembered_key, unread_in}
 use Rattle.crack_column.specs.Inside.{Knows}
 use Rattle.crack_column.specs.Labels.{tags_of}
 use Rattle.crack_column.proofs.LabelLaws.{length-tags_of, between-tags_of, Turns-parts}
-use Rattle.crack_column.proofs.TicketLaws.{drawn-between}
 use Rattle.crack_column.proofs.tags.Tags.crack_between_three.Goals as goal
 
 pub offset_bounds-deref_mut-from : goal.offset_bounds-deref_mut-from
@@ -29,15 +28,9 @@ slice_bounds-crack_three-end-2 c =
     let within : c.args.to ≤ length c.args.self.now.items = c.requires.within in
     omega (arith, rw (← c.self.view_is) at within, length-tags_of c.self.inside.labels.items c.self.inside.payloads.items c.self.invariant, c.self.invariant, c.requires.order)
 
-pub crack_three-middle-requires-clause-drawn : goal.crack_three-middle-requires-clause-drawn
-crack_three-middle-requires-clause-drawn c =
-    let within : c.args.to ≤ length c.args.self.now.items = c.requires.within in
-    let all : All (λ t. t.ticket < length c.args.generations.now) c.args.self.now.items = c.requires.drawn in
-    rw (c.deref_mut.ensures.value, c.deref_mut-2.ensures.value, between-tags_of c.args.from c.args.to c.self.inside.labels.items c.self.inside.payloads.items) (drawn-between c.args.generations.now (tags_of c.self.inside.labels.items c.self.inside.payloads.items) c.args.from c.args.to (rw (← c.self.view_is) at within) (rw (← c.self.view_is) at all))
-
 pub crack_three-middle-requires-clause-known : goal.crack_three-middle-requires-clause-known
 crack_three-middle-requires-clause-known c =
-    let known : All (Knows c.args.arena.now.cells c.args.generations.now) (between c.args.from c.args.to c.args.self.now.items) = c.requires.known in
+    let known : All (Knows c.args.arena.now.cells) (between c.args.from c.args.to c.args.self.now.items) = c.requires.known in
     rw (c.deref_mut.ensures.value, c.deref_mut-2.ensures.value, between-tags_of c.args.from c.args.to c.self.inside.labels.items c.self.inside.payloads.items) (rw (← c.self.view_is) at known)
 
 pub crack_three-middle-requires-clause-unread : goal.crack_three-middle-requires-clause-unread
@@ -65,7 +58,7 @@ returns-clause-low c =
     let ps = c.self.inside.payloads.items in
     let within : c.args.to ≤ length c.args.self.now.items = c.requires.within in
     let end : c.args.to ≤ length ls = omega (arith, rw (← c.self.view_is) at within, length-tags_of ls ps c.self.invariant) in
-    rw (← c.self.view_is, c.deref_mut.ensures.value, c.deref_mut-2.ensures.value) (Turns-parts c.args.arena.now.cells c.args.generations.now c.args.low.0 c.args.from c.args.to ls c.crack_three-middle.new.labels ps c.crack_three-middle.new.payloads _ _ c.crack_three-middle.result.0 c.crack_three-middle.result.2 c.requires.order end c.self.invariant (omega arith) (omega arith) (omega (arith, c.crack_three-middle.auto.labels, c.deref_mut.ensures.len, end, length-between ls c.args.from c.args.to end)) (omega (arith, c.crack_three-middle.auto.payloads, c.deref_mut-2.ensures.len, end, c.self.invariant)) (rw (c.deref_mut.ensures.value, c.deref_mut-2.ensures.value) at c.crack_three-middle.ensures.kept) c.crack_three-middle.ensures.read c.crack_three-middle.ensures.low (rw (c.deref_mut.ensures.value, c.deref_mut-2.ensures.value) at c.crack_three-middle.ensures.fewer))
+    rw (← c.self.view_is, c.deref_mut.ensures.value, c.deref_mut-2.ensures.value) (Turns-parts c.args.arena.now.cells c.args.low.0 c.args.from c.args.to ls c.crack_three-middle.new.labels ps c.crack_three-middle.new.payloads _ _ c.crack_three-middle.result.0 c.crack_three-middle.result.2 c.requires.order end c.self.invariant (omega arith) (omega arith) (omega (arith, c.crack_three-middle.auto.labels, c.deref_mut.ensures.len, end, length-between ls c.args.from c.args.to end)) (omega (arith, c.crack_three-middle.auto.payloads, c.deref_mut-2.ensures.len, end, c.self.invariant)) (rw (c.deref_mut.ensures.value, c.deref_mut-2.ensures.value) at c.crack_three-middle.ensures.kept) c.crack_three-middle.ensures.read c.crack_three-middle.ensures.low (rw (c.deref_mut.ensures.value, c.deref_mut-2.ensures.value) at c.crack_three-middle.ensures.fewer))
 
 pub returns-clause-high : goal.returns-clause-high
 returns-clause-high c =
@@ -73,7 +66,7 @@ returns-clause-high c =
     let ps = c.self.inside.payloads.items in
     let within : c.args.to ≤ length c.args.self.now.items = c.requires.within in
     let end : c.args.to ≤ length ls = omega (arith, rw (← c.self.view_is) at within, length-tags_of ls ps c.self.invariant) in
-    rw (← c.self.view_is, c.deref_mut.ensures.value, c.deref_mut-2.ensures.value) (Turns-parts c.args.arena.now.cells c.args.generations.now c.args.high.0 c.args.from c.args.to ls c.crack_three-middle.new.labels ps c.crack_three-middle.new.payloads _ _ c.crack_three-middle.result.1 c.crack_three-middle.result.2 c.requires.order end c.self.invariant (omega arith) (omega arith) (omega (arith, c.crack_three-middle.auto.labels, c.deref_mut.ensures.len, end, length-between ls c.args.from c.args.to end)) (omega (arith, c.crack_three-middle.auto.payloads, c.deref_mut-2.ensures.len, end, c.self.invariant)) (rw (c.deref_mut.ensures.value, c.deref_mut-2.ensures.value) at c.crack_three-middle.ensures.kept) c.crack_three-middle.ensures.read c.crack_three-middle.ensures.high (rw (c.deref_mut.ensures.value, c.deref_mut-2.ensures.value) at c.crack_three-middle.ensures.fewer))
+    rw (← c.self.view_is, c.deref_mut.ensures.value, c.deref_mut-2.ensures.value) (Turns-parts c.args.arena.now.cells c.args.high.0 c.args.from c.args.to ls c.crack_three-middle.new.labels ps c.crack_three-middle.new.payloads _ _ c.crack_three-middle.result.1 c.crack_three-middle.result.2 c.requires.order end c.self.invariant (omega arith) (omega arith) (omega (arith, c.crack_three-middle.auto.labels, c.deref_mut.ensures.len, end, length-between ls c.args.from c.args.to end)) (omega (arith, c.crack_three-middle.auto.payloads, c.deref_mut-2.ensures.len, end, c.self.invariant)) (rw (c.deref_mut.ensures.value, c.deref_mut-2.ensures.value) at c.crack_three-middle.ensures.kept) c.crack_three-middle.ensures.read c.crack_three-middle.ensures.high (rw (c.deref_mut.ensures.value, c.deref_mut-2.ensures.value) at c.crack_three-middle.ensures.fewer))
 
 pub returns-clause-capacity : goal.returns-clause-capacity
 returns-clause-capacity c = rw (← c.self.view_is) refl

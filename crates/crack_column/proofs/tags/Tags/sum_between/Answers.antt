@@ -1,10 +1,8 @@
-use Rattle.std.proofs.Common.{◌≤◌, ◌<◌, length, All, ◌∙◌, arith}
+use Rattle.std.proofs.Common.{◌≤◌, length, All, ◌∙◌, arith}
 use Rattle.std.specs.List.{between}
 use Rattle.crack_column.specs.Keeps.{unread_in}
 use Rattle.crack_column.specs.Inside.{Knows}
-use Rattle.crack_column.specs.Labels.{tags_of}
 use Rattle.crack_column.proofs.LabelLaws.{length-tags_of, between-tags_of}
-use Rattle.crack_column.proofs.TicketLaws.{drawn-between}
 use Rattle.std.specs.Int.{w128}
 use Rattle.std.proofs.lemmas.Int.{ints, to_z-of_z, fits_signed_from_abs}
 use Rattle.crack_column.proofs.tags.Tags.sum_between.Goals as goal
@@ -29,15 +27,9 @@ slice_bounds-sum-end-2 c =
     let within : c.args.to ≤ length c.args.self.now.items = c.requires.within in
     omega (arith, rw (← c.self.view_is) at within, length-tags_of c.self.inside.labels.items c.self.inside.payloads.items c.self.invariant, c.self.invariant, c.requires.order)
 
-pub sum-requires-clause-drawn : goal.sum-requires-clause-drawn
-sum-requires-clause-drawn c =
-    let within : c.args.to ≤ length c.args.self.now.items = c.requires.within in
-    let all : All (λ t. t.ticket < length c.args.generations.now) c.args.self.now.items = c.requires.drawn in
-    rw (c.deref.ensures.value, c.deref-2.ensures.value, between-tags_of c.args.from c.args.to c.self.inside.labels.items c.self.inside.payloads.items) (drawn-between c.args.generations.now (tags_of c.self.inside.labels.items c.self.inside.payloads.items) c.args.from c.args.to (rw (← c.self.view_is) at within) (rw (← c.self.view_is) at all))
-
 pub sum-requires-clause-known : goal.sum-requires-clause-known
 sum-requires-clause-known c =
-    let known : All (Knows c.args.arena.now.cells c.args.generations.now) (between c.args.from c.args.to c.args.self.now.items) = c.requires.known in
+    let known : All (Knows c.args.arena.now.cells) (between c.args.from c.args.to c.args.self.now.items) = c.requires.known in
     rw (c.deref.ensures.value, c.deref-2.ensures.value, between-tags_of c.args.from c.args.to c.self.inside.labels.items c.self.inside.payloads.items) (rw (← c.self.view_is) at known)
 
 pub sum-requires-clause-unread : goal.sum-requires-clause-unread
