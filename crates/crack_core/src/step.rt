@@ -40,11 +40,14 @@ pub enum Job {
 /// An example, from a test:
 ///
 /// ```
-/// let told = match &done[place] {
-///     Ok(Done::Replied(reply)) => write_reply(0, reply, &mut writer),
-///     Ok(Done::Folded(count)) => write_folded(*count, &mut writer),
-///     Err(refusal) => write_refusal(refusal, &mut writer),
-/// };
+/// match &done[place] {
+///     Ok(Done::Replied(reply)) => {
+///         let reply = reply.copy(alloc).expect(rt, "memory");
+///         add_reply(rt, &mut text, 0, reply);
+///     }
+///     Ok(Done::Folded(count)) => add_folded(rt, &mut text, *count),
+///     Err(refusal) => add_refusal(rt, &mut text, refusal),
+/// }
 /// ```
 #[derive(Drop, Debug)]
 pub enum Done {
