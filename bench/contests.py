@@ -195,7 +195,7 @@ def set_contests(runs):
 
 
 def steps(policy, words):
-    """How many rows a run of merges put in, took out, evicted, moved and pulled, in millions: the same in each run."""
+    """How many rows a run of merges inserted, deleted, evicted, moved and pulled, in millions: the same in each run."""
     ran = subprocess.run([BENCH, words[0], policy, *map(str, words[1:])], capture_output=True, text=True, check=True)
     counted = dict(line.split() for line in ran.stderr.splitlines())
     return sum(int(counted[name]) for name in of_bench.WORK) / 1e6

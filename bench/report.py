@@ -399,7 +399,7 @@ def query_plot(measured, points):
 def between_plot(between):
     """The times between updates, in milliseconds; each number of changes has a scale of its own."""
     groups = {it.what: {name: seconds * 1e3 for name, seconds in it.times.items()} for it in between}
-    return bars("Queries between updates", groups, "ms", is_one_scale=False)
+    return bars("Queries between updates, on two scales", groups, "ms", is_one_scale=False)
 
 
 def loading_plot(times):
@@ -413,7 +413,7 @@ def ways_plot(rates):
 def worker_plot(workers):
     named = lambda count: f"{count} worker{'s' if count > 1 else ''}"
     groups = {where: {named(count): it / 1e3 for count, it, _ in rates} for where, rates in workers.items()}
-    return bars("What workers answer", groups, "thousand statements a second")
+    return bars("Statements answered, by number of workers", groups, "thousand statements a second")
 
 
 def write(folder, bench, peers, measured):
@@ -504,7 +504,7 @@ pending rows:
 
 ## What each policy moves
 
-Millions of steps in which a row is put into the column, taken out, put back, or moved from one piece to the next. Every run takes the same steps. So does the
+Millions of steps in which a row is inserted into the column, deleted from it, evicted, or moved to the next piece. Every run takes the same steps. So does the
 column in plain Rust, except under `auto`, which it doesn't have:
 
 ![Steps of rows, by policy](moves.svg)
@@ -529,7 +529,7 @@ Each line says how many times as fast `crackd` is.
 
 The cracker column for speed alone is plain Rust that takes the same steps. It identifies a row by its slot, which a later row may reuse. Pending rows are in
 plain vectors, and a bit beside the column says whether a row is doomed. The BTreeMap maps key and number to the payload, and adds up ranges; policies don't
-affect it. All get the same inserts, deletes and queries and give the same answers. `crackd` and the column put in, put back, move, pull and take out the same
+affect it. All get the same inserts, deletes and queries and give the same answers. `crackd` and the column insert, evict, move, pull and delete the same
 number of rows. The column has no policy `auto`.
 
 {rival_table(measured.rivals)}

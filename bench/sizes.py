@@ -27,7 +27,7 @@ SPLITS = [str(part * PART_WIDTH) for part in range(1, 64)]
 # the numbers of workers; and, as crack_bench counts them, rows of each partition, and steps of four statements
 WORKER_COUNTS = [1, 2, 4]
 WORKER_ROWS, WORKER_STEPS = 100_000, 4000
-SHARINGS = [("own", "two partitions of each's own"), ("shared", "all over the same partitions")]
+SHARINGS = [("own", "each worker on two partitions of its own"), ("shared", "all workers on the same partitions")]
 # a worker has two partitions, and each insert is an entry
 GATHER_WORKERS, GATHER_ROWS = 4, 125_000
 UNAUDITED_ROWS = (125, 12_500, GATHER_ROWS)

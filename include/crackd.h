@@ -66,14 +66,22 @@ enum { CRACKD_COMPLETE = 0, CRACKD_GRADUAL = 1, CRACKD_RIPPLE = 2, CRACKD_AUTO =
 #define CRACKD_MOST_CELLS UINT64_C(16777215)
 #define CRACKD_MOST_LIFE UINT64_C(1099511627776)
 
-/* A table of the library, or none. */
+/* A table of the library, or none. An example, from a test:
+
+       crackd_handle table = {0};
+       const uint64_t splits[] = {500000};
+       uint32_t status = crackd_open(&table, splits, 1, 65536, CRACKD_MOST_CELLS, CRACKD_MOST_LIFE); */
 typedef struct {
     void *at;
     bool is_open;
 } crackd_handle;
 
 /* The layout of a partition: the numbers of its rows, places of its column, deleted rows that are still in the column,
-   rows that aren't merged yet, cells, free cells, and pieces of the column. */
+   rows that aren't merged yet, cells, free cells, and pieces of the column. An example, from a test:
+
+       crackd_totals totals = {.rows = 5555};
+       uint64_t lows[2] = {5555, 5555}, sizes[2] = {5555, 5555};
+       uint32_t part = (uint32_t)step % PARTS, status = crackd_layout(&it->handle, part, &totals, lows, 2, sizes, 2); */
 typedef struct {
     uint64_t rows, column, pending_out, pending_in, cells, free, pieces;
 } crackd_totals;

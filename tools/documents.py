@@ -9,6 +9,8 @@
   that contains this test.
 - A name of code in a crate's section of PROOFS that is neither in the crate's texts nor a function or type elsewhere.
 - A link to a file that doesn't exist, or to a heading that a page doesn't have.
+- A type of EXAMPLES whose comment has no example, and an example in a comment that no test has. Between two lines of an
+  example, `// ..` stands for what was left out.
 """
 
 import re
@@ -36,6 +38,26 @@ NAME = re.compile(r"[A-Za-z_][\w-]*")
 DEFINED = re.compile(r"\b(?:fn|pub struct|pub enum|pub trait) (\w+)")
 # words in sections that aren't names of code: words of statements and policies, and a crate of the toolchain
 PLAIN = {"quit", "policy", "auto", "csv"}
+# the public types of libraries for programs, by the file that has them
+EXAMPLES = {
+    "crates/crack_core/src/cores.rt": ["Core"],
+    "crates/crack_core/src/step.rt": ["Job", "Done"],
+    "crates/crack_session/src/feeding.rt": ["Session"],
+    "crates/crack_session/src/session.rt": ["End"],
+    "crates/crack_session/src/desk.rt": ["Desk"],
+    "crates/crack_table/src/opening.rt": ["UnnamedTable"],
+    "crates/crack_table/src/table.rt": ["Table"],
+    "crates/crack_table/src/gathering.rt": ["Gathered"],
+    "crates/crack_table/src/gate.rt": ["Gate"],
+    "crates/crack_worker_desk/src/desk.rt": ["WorkerDesk"],
+    "include/crackd.h": ["crackd_handle", "crackd_totals"],
+}
+# where the code of examples is run
+RUN = ["crates/*_tests/src/**/*.rt", "acceptance/c/*.c", "docs/C.md"]
+SHOWN_TYPE = re.compile(
+    r"An example, from a test:\n(?:///)?\n(.*?)(?:^/// ```\n(?:#[^\n]*\n)*pub \w+|\*/\ntypedef struct \{[^}]*\}) (\w+)",
+    re.DOTALL | re.MULTILINE,
+)
 LINK = re.compile(r"\]\(([^)\s]+)\)")
 HEADING = re.compile(r"^#+ (.*)$", re.MULTILINE)
 
@@ -84,6 +106,20 @@ def strangers(text, top):
         yield from (f"{PROOFS}: {crate} has no {it}" for it in sorted(named - own - known))
 
 
+def example_faults(top, types):
+    """The types without an example, and the examples with lines that no test has."""
+    lines = lambda text: "\n".join(it.strip() for it in text.splitlines())
+    tests = [lines(read(path)) for pattern in RUN for path in sorted(top.glob(pattern))]
+    for file, names in types.items():
+        shown = {name: text for text, name in SHOWN_TYPE.findall(read(top / file))}
+        yield from (f"{file}: {it} has no example" for it in names if it not in shown)
+        for name, text in shown.items():
+            code = re.sub(r"^ *(?:///(?: ```)?) ?", "", text, flags=re.MULTILINE)
+            for part in code.split("// ..\n"):
+                if not any(lines(part).strip() in it for it in tests):
+                    yield f"{file}: no test has the example of {name}: {part.strip().splitlines()[0]}"
+
+
 def broken_links(top):
     """The links that lead nowhere, each with the page that has it."""
     anchors = lambda text: {re.sub(r"[^\w\- ]", "", it.lower()).replace(" ", "-") for it in HEADING.findall(text)}
@@ -95,13 +131,14 @@ def broken_links(top):
                 yield f"{page.relative_to(top)} leads to {link}"
 
 
-def faults(top=TOP):
+def faults(top=TOP, types=EXAMPLES):
     """All that is wrong, a line each."""
     proofs = read(top / PROOFS)
-    return [*rule_faults(top), *lost_tests(proofs, top), *strangers(proofs, top), *broken_links(top)]
+    texts = [*rule_faults(top), *lost_tests(proofs, top), *strangers(proofs, top), *broken_links(top)]
+    return [*texts, *example_faults(top, types)]
 
 
 if __name__ == "__main__":
     found = faults()
-    print("\n".join(found) or "each rule has a case, and each name and link leads somewhere")
+    print("\n".join(found) or "each rule has a case, each name and link leads somewhere, and each example is in a test")
     sys.exit(1 if found else 0)

@@ -318,12 +318,17 @@ class Documents(unittest.TestCase):
     def test_a_fault_of_each_kind_is_found(self):
         rows = "| No. | Where |\n|---|---|\n| 1 | gone §a-row-goes |\n| 2 | none |\n"
         tests = [f"[`{it}`](../tests/one.rt)" for it in ("a_test", "no_such_test", "one.rt")]
+        cores = "crates/crack_core/src/cores.rt"
+        code = "let one = One::new();\n/// // ..\n/// one.ask(1)"
+        example = f"/// An example, from a test:\n///\n/// ```\n/// {code}\n/// ```\n#[derive(Drop)]\n"
         section = "## crack_row\n\n- A range (`KeyRange::contains`: `no_such_clause`).\n"
         files = {
             documents.RULES: f"Words.\n\n- It comes. §a-row\n- It goes,\n  and comes.\n\n{rows}",
             documents.PROOFS: f"{section}\n{documents.TESTED}seen by {', '.join(tests)} and `no_file.py`\n",
             "acceptance/cases/rows.cases": "== a-row-comes\n$ script\n",
             "crates/crack_row/src/range.rt": "impl KeyRange {\n    fn contains() {}\n}\n",
+            cores: f"/// A core.\npub struct Core {{}}\n\n/// One.\n///\n{example}pub enum One {{}}\n",
+            "crates/crack_core_tests/src/lib.rt": "fn of_one() {\n    let one = One::new();\n    one.ask(2)\n}\n",
             "tests/one.rt": "fn a_test() {}\n",
             "page.md": "# A page\n\n## The `end`, at last\n",
             "other.md": "[a](page.md#the-end-at-last) [b](page.md#begin) [c](none.md) [d](https://e.org)\n",
@@ -333,7 +338,8 @@ class Documents(unittest.TestCase):
         wanted += [f"{documents.PROOFS}: {it} isn't a link to a test" for it in ("no_such_test", "no_file.py")]
         wanted += [f"{documents.PROOFS}: crack_row has no no_such_clause"]
         wanted += [f"other.md leads to {it}" for it in ("page.md#begin", "none.md")]
-        self.assertEqual(documents.faults(folder_with(self, files)), wanted)
+        wanted += [f"{cores}: Core has no example", f"{cores}: no test has the example of One: one.ask(1)"]
+        self.assertEqual(documents.faults(folder_with(self, files), {cores: ["Core", "One"]}), wanted)
 
 
 if __name__ == "__main__":

@@ -214,6 +214,16 @@ class AsyncTable:
     Its methods are those of `crackd.Client` and are awaited. Their arguments, results and errors are the same. Calls of
     several tasks are sent at once, without waiting for each other's replies. If a task is cancelled the connection
     stays usable. The server still does what the task had sent, and a `move` is completed.
+
+    Examples
+    --------
+    >>> async def ask(port):
+    ...     async with await crackd.connect_async(port=port) as table:
+    ...         row = await table.insert(5, 70)
+    ...         return await table.count(0, 10), await table.sum()
+    >>> with crackd.serve(workers=1) as server:
+    ...     print(asyncio.run(ask(server.port)))
+    (1, 70)
     """
 
     def __init__(self, table: Shared):

@@ -15,7 +15,16 @@ from .remote import RemoteTable
 
 
 class Client(RemoteTable):
-    """A table on a server: see `connect`."""
+    """A table on a server: see `connect`.
+
+    Examples
+    --------
+    >>> with crackd.serve(workers=1) as server:
+    ...     with crackd.connect(port=server.port) as table:
+    ...         row = table.insert(5, 70)
+    ...         print(table.count(0, 10), table.sum())
+    1 70
+    """
 
     def __init__(self, channel: Channel, keys: Keys, policy: str):
         self._channel: Optional[Channel] = channel

@@ -47,6 +47,15 @@ class Piece:
     """A piece of a cracker column, or `joined` neighbouring pieces that are drawn as one.
 
     Its keys are the numbers from `low` up to but not including `high`. `rows` is the number of rows in it.
+
+    Examples
+    --------
+    >>> with crackd.Table(key_type="uint64") as table:
+    ...     numbers = table.insert_many([9, 5], [1, 70])
+    ...     count = table.count(0, 8)
+    ...     (part,) = table.layout().parts
+    ...     print([(piece.low, piece.high, piece.rows) for piece in part.pieces])
+    [(0, 8, 1), (8, 18446744073709551616, 1)]
     """
 
     low: int
@@ -77,6 +86,14 @@ class PartLayout:
         The pieces of the column, in the order of their keys.
     keys : Keys
         The type of the keys.
+
+    Examples
+    --------
+    >>> with crackd.Table() as table:
+    ...     row = table.insert(5, 70)
+    ...     (part,) = table.layout().parts
+    ...     print(part.rows, part.column, part.pending_in)
+    1 0 1
     """
 
     partition: int
@@ -148,7 +165,16 @@ def bar(text: str, width: int, count: int, most: int, mark: str) -> str:
 
 @dataclass(frozen=True)
 class Layout:
-    """The layouts of all partitions."""
+    """The layouts of all partitions.
+
+    Examples
+    --------
+    >>> with crackd.Table(splits=[100, 200]) as table:
+    ...     row = table.insert(5, 70)
+    ...     layout = table.layout()
+    ...     print(layout.rows, [part.rows for part in layout.parts])
+    1 [1, 0, 0]
+    """
 
     parts: tuple[PartLayout, ...]
 

@@ -20,14 +20,31 @@ CHUNK = 65_536
 
 
 class Row(NamedTuple):
-    """The key and payload of a row, as `get` returns them."""
+    """The key and payload of a row, as `get` returns them.
+
+    Examples
+    --------
+    >>> with crackd.Table() as table:
+    ...     key, payload = table.get(table.insert(5, 70))
+    ...     print(key, payload)
+    5 70
+    """
 
     key: OneKey
     payload: int
 
 
 class Rows(NamedTuple):
-    """Rows as `select` returns them: three arrays of equal length, ordered by row number."""
+    """Rows as `select` returns them: three arrays of equal length, ordered by row number.
+
+    Examples
+    --------
+    >>> with crackd.Table() as table:
+    ...     numbers = table.insert_many([9, 5], [1, 70])
+    ...     rows = table.select(0, 10)
+    ...     print(rows.keys.tolist(), rows.payloads.tolist())
+    [9, 5] [1, 70]
+    """
 
     rows: RowNumbers
     keys: KeyArray
@@ -53,7 +70,17 @@ class Rows(NamedTuple):
 
 
 class Rebalanced(NamedTuple):
-    """The new table that `rebalanced` returns, the old row numbers in ascending order, and the new ones beside them."""
+    """The new table that `rebalanced` returns, the old row numbers in ascending order, and the new ones beside them.
+
+    Examples
+    --------
+    >>> with crackd.Table() as before:
+    ...     numbers = before.insert_many([9, 5, 7], [1, 70, 3])
+    ...     gone = before.delete(numbers[0])
+    ...     table, old, new = before.rebalanced()
+    ...     print(table.count(), old.tolist(), new.tolist())
+    2 [1, 2] [0, 1]
+    """
 
     table: AnyTable
     old: RowNumbers

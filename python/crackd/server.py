@@ -92,7 +92,15 @@ def output_of(process: subprocess.Popen[AnyStr]) -> IO[AnyStr]:
 
 
 class Server:
-    """A server that `serve` started. It listens on 127.0.0.1, port `port`."""
+    """A server that `serve` started. It listens on 127.0.0.1, port `port`.
+
+    Examples
+    --------
+    >>> with crackd.serve(workers=1) as server, server.connect() as table:
+    ...     row = table.insert(5, 70)
+    ...     print(table.count(0, 10), table.sum())
+    1 70
+    """
 
     def __init__(self, command: Sequence[str], keys: Keys, policy: str):
         self._keys, self._policy, self._parent = keys, policy, os.getpid()

@@ -56,6 +56,13 @@ class Table(TableHere, Sharded):
     row_numbers : array of uint64
         The numbers of the rows that the table was made from (arrays, a frame or a file), in the order given. An empty
         table that was made by `Table(..)` doesn't have this attribute.
+
+    Examples
+    --------
+    >>> with crackd.Table() as table:
+    ...     row = table.insert(5, 70)
+    ...     print(table.count(0, 10), table.sum(), table.delete(row), table.count())
+    1 70 True 0
     """
 
     row_numbers: RowNumbers

@@ -103,7 +103,7 @@ enum Value {
     Flag,
     /// A number, which the help calls by this word.
     Number(&'static str),
-    /// A number of an option that is required.
+    /// A number, which the help calls by this word, of an option that must be given.
     Required(&'static str),
 }
 

@@ -28,6 +28,22 @@ use std::marker::Model;
 
 /// Partitions by key range, asked by one thread. Contracts see the splits, the limits of each partition, and the
 /// partitions.
+///
+/// An example, from a test:
+///
+/// ```
+/// let insert = Command::Insert {
+///     key: Key::from_number(7),
+///     payload: Payload::from_number(70),
+/// };
+/// let count = Command::Count(KeyRange::all());
+/// let steps = [step(0, insert), step(7, count), step(0, count)];
+/// let results = core.run_steps(&steps).expect(rt, "memory");
+/// assert!(rt; results.len() == 3);
+/// assert!(rt; matches!(results[0], Ok(Reply::Placed(Serial(0)))));
+/// assert!(rt; matches!(results[1], Err(Refusal::NoSuchPartition)));
+/// assert!(rt; matches!(results[2], Ok(Reply::Counted(1))));
+/// ```
 #[derive(Drop)]
 pub struct Core {
     splits: Vec<Bound>,
@@ -138,7 +154,7 @@ impl Core {
     }
 
     /// The layout of one partition. Cracks and merges nothing, and isn't counted as a command. Refused with
-    /// `NoSuchPartition` if there is none, and with `OutOfMemory` if no memory is found. O(pieces).
+    /// `NoSuchPartition` if there is no such partition, and with `OutOfMemory` if no memory is found. O(pieces).
     pub fn layout(&self, part: u32) -> Result<Layout, Refusal>
         ensures outcome { IsLayoutOutcome (keys_of_part self.now.splits part)
             (slice_get (tables_of self.now.parts) part) result }
@@ -152,7 +168,7 @@ impl Core {
     }
 
     /// The statistics of one partition, for monitoring: how many rows, cells and commands it has. Cracks and merges
-    /// nothing, and isn't counted as a command. Refused with `NoSuchPartition` if there is none. O(1).
+    /// nothing, and isn't counted as a command. Refused with `NoSuchPartition` if there is no such partition. O(1).
     pub fn statistics(&self, part: u32) -> Result<Statistics, Refusal>
         ensures outcome { IsStatisticsOutcome (slice_get (tables_of self.now.parts) part) result }
         ensures expected { result ≡ expected_statistics (slice_get self.now.parts part) }
@@ -164,11 +180,11 @@ impl Core {
     }
 
     /// Performs a step: asks one partition, by one call of `Partition::apply`. Refused, in this order: with
-    /// `NoSuchPartition` if there is none, with `KeyOutside` if the command has a key that isn't the partition's,
-    /// with `HistoryFull` if the partition has accepted as many commands as its limit since its last checkpoint and
-    /// upkeep is on request, with `LifeOver` if it has accepted as many as its limit `life` since it was opened, with
-    /// `NoCell` if no cell is free for a row and upkeep frees none, and with `OutOfMemory` if no memory is found.
-    /// Only `OutOfMemory` may leave a change, which `Partition::apply` describes.
+    /// `NoSuchPartition` if there is no such partition, with `KeyOutside` if the command has a key of another
+    /// partition, with `HistoryFull` if the partition has accepted as many commands as its limit since its last
+    /// checkpoint and upkeep is on request, with `LifeOver` if it has accepted as many as its limit `life` since it
+    /// was opened, with `NoCell` if no cell is free for a row and upkeep frees none, and with `OutOfMemory` if no
+    /// memory is found. Only `OutOfMemory` may leave a change, which `Partition::apply` describes.
     #[inline(always)]
     pub fn step(&mut self, step: Step) -> Result<Reply, Refusal>
         // The outcome is the reply that the partition's plain rows give, or the refusal that they require. In place
@@ -218,7 +234,7 @@ impl Core {
 
     /// Makes a checkpoint of one partition, and returns how many commands it had accepted since its previous one;
     /// that count restarts at 0. Cracks and merges nothing, takes no memory, and changes no later reply. Refused
-    /// with `NoSuchPartition` if there is none; then nothing has changed.
+    /// with `NoSuchPartition` if there is no such partition; then nothing has changed.
     pub fn checkpoint(&mut self, part: u32) -> Result<u64, Refusal>
         ensures outcome { result ≡ expected_fold (slice_get (tables_of self.old.parts) part) }
         ensures after { tables_of self.new.parts ≡ changed_at checkpointed (tables_of self.old.parts) part result }
@@ -319,7 +335,7 @@ fn run_all(partitions: &mut [Partition], steps: &[Step], results: &mut Vec<Resul
     }
 }
 
-/// Makes a checkpoint of one partition. Refused with `NoSuchPartition` if there is none.
+/// Makes a checkpoint of one partition. Refused with `NoSuchPartition` if there is no such partition.
 fn fold_at(partitions: &mut [Partition], part: u32) -> Result<u64, Refusal>
     ensures outcome { result ≡ expected_fold (slice_get (tables_of partitions.old) part) }
     ensures after { tables_of partitions.new ≡ changed_at checkpointed (tables_of partitions.old) part result }

@@ -11,6 +11,22 @@ pub struct Step {
 }
 
 /// A call of a core: a step, or a checkpoint of a partition.
+///
+/// An example, from a test:
+///
+/// ```
+/// if let Statement::Checkpoint(part) = statement {
+///     return Job::Fold(part);
+/// }
+/// let command = command_of(statement).expect(rt, "a command");
+/// Job::Perform(Step {
+///     part: 0,
+///     command,
+///     policy: Policy::Ripple,
+/// })
+/// // ..
+/// core.run_jobs(jobs).expect(rt, "memory")
+/// ```
 #[derive(Clone, Copy, Debug)]
 pub enum Job {
     /// Perform a step.
@@ -20,6 +36,19 @@ pub enum Job {
 }
 
 /// What a job that wasn't refused has done.
+///
+/// An example, from a test:
+///
+/// ```
+/// match &done[place] {
+///     Ok(Done::Replied(reply)) => {
+///         let reply = reply.copy(alloc).expect(rt, "memory");
+///         add_reply(rt, &mut text, 0, reply);
+///     }
+///     Ok(Done::Folded(count)) => add_folded(rt, &mut text, *count),
+///     Err(refusal) => add_refusal(rt, &mut text, refusal),
+/// }
+/// ```
 #[derive(Drop, Debug)]
 pub enum Done {
     /// A step was performed, with this reply.

@@ -67,8 +67,8 @@ impl PartReply {
     }
 }
 
-/// Asks partitions in order, each for its part of a range, and stops at the first refusal. Takes memory for a reply
-/// of each; refused with `OutOfMemory`, before the first is asked, if it finds none.
+/// Asks partitions in order, each for its part of a range, and stops at the first refusal. Refused with `OutOfMemory`,
+/// before the first is asked, if no memory is found for a reply of each.
 pub fn ask_parts<A: AskPart>(
     alloc: Global,
     partitions: &mut A,

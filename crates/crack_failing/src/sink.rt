@@ -17,7 +17,7 @@ pub struct Sink {
 }
 
 impl Sink {
-    /// Makes a writer that appends every byte it is given to these, and fails only if it finds no memory for them.
+    /// Makes a writer that appends to these bytes all that it is given, and fails only if no memory is found.
     pub fn new(bytes: Vec<u8>) -> Sink
         ensures bytes { result.bytes ≡ bytes }
         ensures whole { result.most ≡ 2 ^ 64 - 1 }

@@ -12,6 +12,14 @@ use crack_row::{Bound, Command, Layout, Policy, Refusal, Reply};
 
 /// A desk executes the commands of a session, one after another: it is a table of one thread (`Core`), or a worker of
 /// a shared table (`WorkerDesk`). The keys of its table are divided into partitions, numbered from 0.
+///
+/// An example, from a test:
+///
+/// ```
+/// let one = desk.ask(0, insert(7), Policy::Complete);
+/// let two = desk.ask(0, insert(8), Policy::Complete);
+/// assert!(rt; one.is_ok() && two.is_ok());
+/// ```
 pub trait Desk {
     ghost use Rattle.std.specs.Prelude.{ℕ, Option, List};
     ghost use Rattle.crack_row.specs.declared.Bound.{Bound};

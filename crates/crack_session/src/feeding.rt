@@ -28,6 +28,22 @@ use std::mem;
 
 /// The state of a session between two calls of `feed`: the unfinished line, the policy and counts, and the rest of a
 /// text that didn't fit into the output. It takes no memory.
+///
+/// An example, from a test:
+///
+/// ```
+/// let mut session = Session::new(Policy::Complete);
+/// // ..
+/// session.feed(alloc, desk, bytes, output)
+/// // ..
+/// taken += fed.taken;
+/// take(rt, text, &mut output);
+/// if matches!(fed.why, Why::Quit | Why::Refused) {
+///     return fed.why;
+/// }
+/// // ..
+/// session.end(alloc, desk, output)
+/// ```
 #[derive(Drop)]
 pub struct Session {
     begun: ArrayVec<u8, KEPT_BYTES>,
@@ -338,7 +354,8 @@ impl Session {
         }
     }
 
-    /// Counts a reply, which is no lack of room and sets no policy, and appends its text.
+    /// Appends the text of a reply, and counts the statement. Notes nothing else, since a reply sets no policy and is
+    /// no refusal.
     #[inline(always)]
     fn tell_reply(&mut self, part: u32, reply: Reply, out: &mut Output)
         requires { length out.old.items + LONGEST_TEXT ≤ OUTPUT_BYTES }

@@ -10,8 +10,8 @@ use crack_row::Refusal;
 
 /// Parses a line: returns its statement or why it isn't one, or `None` if it is blank. Refused with `BadRange` if
 /// the ends of a range are out of order or too great, else with `BadStatement`. Of a line that is too long only the
-/// first `LINE_BYTES` bytes are parsed: it ends the session if it belongs to an HTTP request, and is no statement
-/// otherwise. Takes no memory.
+/// first `LINE_BYTES` bytes are parsed: it ends the session if it belongs to an HTTP request, and otherwise it isn't a
+/// statement. Takes no memory.
 #[tactic(auto, unfolding(crate::specs::Readings::reading_of))]
 #[inline(always)]
 pub fn read_line(line: &[u8]) -> Option<Result<Statement, Refusal>>

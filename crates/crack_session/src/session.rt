@@ -12,6 +12,15 @@ pub enum How {
 }
 
 /// The result of a session that ended normally.
+///
+/// An example, from a test:
+///
+/// ```
+/// let mut reader = Watched::new(input);
+/// let mut writer = Watched::new(Vec::new(alloc));
+/// let mut desk = WorkerDesk::new(rt, &table, &OpenGate, worker);
+/// let ended = serve(alloc, &mut desk, Policy::Complete, &mut reader, &mut writer);
+/// ```
 #[derive(Clone, Copy, PartialEq, Eq, Debug)]
 pub struct End {
     pub how: How,

@@ -89,7 +89,7 @@ pub(crate) fn ask_behind<J: Naming, G: Gate>(
     Ok(answered)
 }
 
-/// The outcome with the table's limit in `HistoryFull`: the partition's own is unknown outside its lock.
+/// The outcome, with the table's limit in `HistoryFull`, because outside the lock no contract knows the partition's.
 pub(crate) fn with_table_limit(
     answered: Result<Reply, Refusal>,
     limit: u64,

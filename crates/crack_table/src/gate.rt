@@ -10,6 +10,20 @@ use crack_row::Refusal;
 /// A gate decides, while a partition's lock is held, whether a worker's command is executed. Each of its calls for a
 /// command is a turn: after a refusal it is called again, at most `GATE_TURNS` times. A program or a test can wait
 /// here.
+///
+/// An example, from a test:
+///
+/// ```
+/// fn inside(&self, _part: u32, _turn: u32) -> bool {
+///     true
+/// }
+///
+/// fn note_checkpoint(&self, part: u32, _entries: u64) {
+///     if let Ok(layout) = self.table.layout(self.rt, part) {
+///         self.rows.fetch_add(layout.rows, Ordering::SeqCst);
+///     }
+/// }
+/// ```
 pub trait Gate {
     /// Whether the gate may refuse at this partition, at this turn.
     ghost may_refuse: { Self → ℕ → ℕ → Type 0 };

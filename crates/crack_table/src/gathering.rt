@@ -25,6 +25,19 @@ use std::alloc::Global;
 use std::sync::Mutex;
 
 /// The totals of all workers, and the partitions with their histories, which exist only in proofs.
+///
+/// An example, from a test:
+///
+/// ```
+/// let gathered = gather(alloc, table, workers).ok().expect(rt, "gathered");
+/// // ..
+/// [
+///     gathered.accepted,
+///     gathered.inserted,
+///     gathered.deleted,
+///     gathered.held,
+/// ]
+/// ```
 #[derive(Drop)]
 pub struct Gathered<J: Naming> {
     /// How many commands were answered.

@@ -19,6 +19,14 @@ use std::marker::Model;
 
 /// A table that is to be opened, and its book, which has no name yet. Contracts see what the table is opened with,
 /// and the book, with the owner of each partition: its number in the book.
+///
+/// An example, from a test:
+///
+/// ```
+/// UnnamedTable::open(alloc, &splits, limits, workers, is_audited)
+/// // ..
+/// let (table, workers) = table.named::<J>(alloc)?;
+/// ```
 #[derive(Drop)]
 pub struct UnnamedTable {
     opened: Opened,

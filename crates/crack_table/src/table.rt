@@ -18,6 +18,14 @@ use std::sync::{Mutex, Wait};
 /// each asks it through a worker of its own. With an audit each partition lists its entries, and each worker keeps
 /// its receipts. Contracts see what the table was opened with; the workers' own state has the events that they have
 /// seen.
+///
+/// An example, from a test:
+///
+/// ```
+/// table.ask(rt, gate, worker, part, command, Policy::Complete)
+/// // ..
+/// let gathered = gather(alloc, table, workers).ok().expect(rt, "gathered");
+/// ```
 #[derive(Drop)]
 pub struct Table<J: Naming> {
     pub(crate) locks: Vec<Mutex<Witnessed<J>>>,

@@ -14,6 +14,16 @@ use std::sync::Wait;
 
 /// The `Desk` of a worker: each command of a session is the worker's command to its table, once the gate consents.
 /// Each call may wait for the lock of the partition that it asks.
+///
+/// An example, from a test:
+///
+/// ```
+/// let mut desk = WorkerDesk::new(rt, table, gate, worker);
+/// let one = desk.ask(0, insert(7), Policy::Complete);
+/// let two = desk.ask(0, insert(8), Policy::Complete);
+/// assert!(rt; one.is_ok() && two.is_ok());
+/// desk.into_worker()
+/// ```
 #[derive(Drop)]
 pub struct WorkerDesk<'a, R: Wait, G: Gate, J: Naming> {
     rt: &'a R,
