@@ -2,7 +2,8 @@
 ghost use Rattle.std.specs.Prelude.{◌≡◌, ◌≢◌, ◌+◌, ◌%◌, ◌<◌, ◌≤◌, List, [], length, take, drop, option_copied};
 ghost use Rattle.std.specs.Prelude.{MatchOption, MatchResult, IfOk, IfErr, OnOk, OnErr, OnSome, is_some, None, Some};
 ghost use Rattle.crack_row.specs.declared.refusal.Refusal.TheVariants.{OutOfMemory};
-ghost use Rattle.crack_arena.specs.Arena.{read, freed, CanPut, handle_for, put_in, set_at, freed_at, cell_at, IsWholeArena};
+ghost use Rattle.crack_arena.specs.Arena.{read, freed, CanPut, handle_for, put_in, set_at, freed_at};
+ghost use Rattle.crack_arena.specs.Arena.{cell_at, IsWholeArena};
 ghost use Rattle.crack_arena.specs.Arena.{IsSpent, KeepsSpent, ArenaCall, after_calls};
 ghost use Rattle.crack_arena.specs.declared.TheConstants.{MOST_FREED};
 

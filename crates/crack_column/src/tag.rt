@@ -12,7 +12,8 @@ ghost use Rattle.crack_column.specs.Keeps.{remembered_key, unread_in};
 ghost use Rattle.crack_column.specs.Places.{memory_of, tag_handle};
 ghost use Rattle.crack_column.specs.Labels.{tag_of, tags_of};
 ghost use Rattle.crack_column.specs.Sifts.{below_bound, queued, made_way};
-ghost use Rattle.crack_column.specs.Inside.{tag_for, label_of, label_handle, forgotten, shifted, turned, KnowsRow, Read};
+ghost use Rattle.crack_column.specs.Inside.{tag_for, label_of, label_handle, forgotten, shifted, turned};
+ghost use Rattle.crack_column.specs.Inside.{KnowsRow, Read};
 
 use crack_arena::{Arena, Handle, Remembered, UNKNOWN_KEY, amount_of, key_of};
 use crack_row::{InnerBound, Key, KeyNumber, Payload, Row};

@@ -12,7 +12,8 @@ use crate::{Mark, Placer};
 /// below it or before `least`. Returns the place of the last, or `least` if there is none. O(marks).
 pub(crate) fn place_up<V: Placer>(link: &mut Link, least: usize, visitor: &mut V) -> usize
     requires ready { V.is_ready visitor.old }
-    ensures places { Places V.places least (marks_in_tree link.old) visitor.old (marks_in_tree link.new) visitor.new result }
+    ensures places { Places V.places least (marks_in_tree link.old) visitor.old (marks_in_tree link.new) visitor.new
+        result }
     ensures rising { Rising (marks_in_tree link.old) → Rising (marks_in_tree link.new) }
     ensures length { length (marks_in_tree link.new) ≡ length (marks_in_tree link.old) }
     ensures height { height_of link.new ≡ height_of link.old }

@@ -14,8 +14,8 @@ use crate::{Mark, Raiser};
 pub(crate) fn raise_down<V: Raiser>(link: &mut Link, most: usize, visitor: &mut V) -> usize
     requires small { All (λ m. m.position + most ≤ usize.MAX) (marks_in_tree link.old) }
     requires ready { V.is_ready visitor.old }
-    ensures raises { Raises V.rises most (reverse (marks_in_tree link.old)) visitor.old (reverse (marks_in_tree link.new))
-        visitor.new result }
+    ensures raises { Raises V.rises most (reverse (marks_in_tree link.old)) visitor.old
+        (reverse (marks_in_tree link.new)) visitor.new result }
     ensures rising { Rising (marks_in_tree link.old) → Rising (marks_in_tree link.new) }
     ensures length { length (marks_in_tree link.new) ≡ length (marks_in_tree link.old) }
     ensures height { height_of link.new ≡ height_of link.old }

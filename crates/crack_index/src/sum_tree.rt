@@ -40,7 +40,10 @@ impl Model for Node {
 
     ghost Value = { Summed };
 
-    ghost view = { λ n. record { entries = entries_in_tree n.left ++ n.entry ∷ entries_in_tree n.right; height = n.height } };
+    ghost view = { λ n. record {
+      entries = entries_in_tree n.left ++ n.entry ∷ entries_in_tree n.right;
+      height = n.height;
+    } };
 
     ghost invariant = { λ n. IsSummed n.left n.entry n.right n.total n.height };
 
@@ -74,7 +77,8 @@ impl Node {
 
     /// Takes the node apart. The node is left without children.
     fn open(&mut self) -> Parts
-        ensures entries { self.old.entries ≡ entries_in_tree result.left ++ result.entry ∷ entries_in_tree result.right }
+        ensures entries { self.old.entries ≡ entries_in_tree result.left ++ result.entry ∷ entries_in_tree
+            result.right }
         ensures high { self.old.height ≡ max (levels_of result.left) (levels_of result.right) + 1 }
         ensures even { DifferByAtMost 1 (levels_of result.left) (levels_of result.right) }
         ensures tall { IsTall (length self.old.entries) self.old.height }

@@ -26,8 +26,8 @@ pub(crate) fn climb<V: Visitor>(link: &mut Link, number: KeyNumber, visitor: &mu
     requires rising { Rising (marks_in_tree link.old) }
     requires small { All (λ m. m.position < usize.MAX) (marks_in_tree link.old) }
     requires ready { V.is_ready visitor.old }
-    ensures climbs { Climbs V.visits (next_mark number (marks_in_tree link.old)) (marks_in_tree link.old) visitor.old result
-        (marks_in_tree link.new) visitor.new }
+    ensures climbs { Climbs V.visits (next_mark number (marks_in_tree link.old)) (marks_in_tree link.old) visitor.old
+        result (marks_in_tree link.new) visitor.new }
     ensures ready { V.is_ready visitor.new }
     ensures there { IfSome result (λ m. Contains (marks_in_tree link.new) m) }
     ensures rising { Rising (marks_in_tree link.new) }
@@ -53,8 +53,8 @@ pub(crate) fn descend<V: Visitor>(
 ) -> Option<Mark>
     requires rising { Rising (marks_in_tree link.old) }
     requires ready { V.is_ready visitor.old }
-    ensures descends { Descends V.visits (last_mark number (marks_in_tree link.old)) (marks_in_tree link.old) visitor.old result
-        (marks_in_tree link.new) visitor.new }
+    ensures descends { Descends V.visits (last_mark number (marks_in_tree link.old)) (marks_in_tree link.old)
+        visitor.old result (marks_in_tree link.new) visitor.new }
     ensures ready { V.is_ready visitor.new }
     ensures there { IfSome result (λ m. Contains (marks_in_tree link.new) m) }
     ensures rising { Rising (marks_in_tree link.new) }

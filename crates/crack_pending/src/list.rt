@@ -77,7 +77,8 @@ impl<Kind> Model for PendingList<Kind> {
     } };
 
     ghost invariant = { λ p.
-        IsSoundList p.handles.items p.remembered.items p.stands.items p.spots.items p.rows p.noted p.hint_place p.hint_spot
+        IsSoundList p.handles.items p.remembered.items p.stands.items p.spots.items p.rows p.noted
+        p.hint_place p.hint_spot
         × (p.unknowns ≡ times unknown (keys_of (kept p.stands.items p.remembered.items)))
         × AreCoded p.remembered.items p.stands.items p.codes
         × AreMembers p.members (kept p.stands.items p.handles.items) (length p.spots.items) };

@@ -3,7 +3,8 @@ ghost use Rattle.std.specs.Prelude.{◌≡◌, ◌+◌, ◌-◌, ◌<◌, ◌≤
 ghost use Rattle.std.specs.Prelude.{IsSome, slice_index_or, IfSome, IfOk, IfErr, OnOk, OnErr, IsOk};
 ghost use Rattle.std.specs.Option.{option_map};
 ghost use Rattle.crack_row.specs.declared.refusal.Refusal.TheVariants.{OutOfMemory};
-ghost use Rattle.crack_serials.specs.Serials.{handle_of, Maps, with_serial, IsLead, room_for, KeepsRoom, UsesRoom, HasRoom};
+ghost use Rattle.crack_serials.specs.Serials.{handle_of, Maps, with_serial, IsLead, room_for, KeepsRoom};
+ghost use Rattle.crack_serials.specs.Serials.{UsesRoom, HasRoom};
 ghost use Rattle.crack_serials.specs.Keeps.{AreMade, KeepsLists, HaveShares};
 ghost use Rattle.crack_serials.specs.Views.{rooms_of};
 

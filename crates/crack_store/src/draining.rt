@@ -8,7 +8,8 @@ ghost use Rattle.crack_state.specs.Pulled.{buried_all, pulled_from, pulled_in_bu
 ghost use Rattle.crack_column.specs.Drains.{doomed_handle};
 ghost use Rattle.crack_state.specs.Merge.{outside_of};
 ghost use Rattle.crack_state.specs.State.{live_rows};
-ghost use Rattle.crack_store.specs.Drainings.{AreBuried, CanBePulled, IsDrainedTo, IsDrainReady, IsShortened, KeepsKeys};
+ghost use Rattle.crack_store.specs.Drainings.{AreBuried, CanBePulled, IsDrainedTo, IsDrainReady};
+ghost use Rattle.crack_store.specs.Drainings.{IsShortened, KeepsKeys};
 ghost use Rattle.crack_store.specs.Drainings.{doomed_of};
 ghost use Rattle.crack_store.specs.Inside.{lists_of};
 ghost use Rattle.crack_store.specs.Keeps.{KeepsIntact};

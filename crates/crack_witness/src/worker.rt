@@ -10,7 +10,8 @@ ghost use Rattle.crack_part.specs.Refusals.{refusal_of};
 ghost use Rattle.crack_part.specs.Upkeep.{answered};
 ghost use Rattle.crack_witness.specs.Audits.{and_one};
 ghost use Rattle.crack_witness.specs.Histories.{history_of, calls_at, upkept_past, AreHistories, AreEmpty};
-ghost use Rattle.crack_witness.specs.Witnesses.{IsInStep, IsGiven, HasJustItsOwn, IsNewWorker, KnowsHistory, MayRefuseAt};
+ghost use Rattle.crack_witness.specs.Witnesses.{IsInStep, IsGiven, HasJustItsOwn, IsNewWorker};
+ghost use Rattle.crack_witness.specs.Witnesses.{KnowsHistory, MayRefuseAt};
 ghost use Rattle.crack_witness.specs.Witnesses.{past_of, receipts_in, replies_at, replies_to};
 
 use crate::listing::{list_for, reserve};
