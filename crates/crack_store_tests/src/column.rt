@@ -212,6 +212,7 @@ pub(crate) fn put_all(
     let first = put(rt, arena, 0, *numbers);
     for place in 1..rows.len() {
         let handle = put(rt, arena, place, rows[place]);
+        assert!(rt; place < 1000);
         assert!(rt; handle == row(first, place as u32));
     }
     first
