@@ -26,6 +26,9 @@ use smallvec::SmallVec;
 use std::alloc::Global;
 use std::marker::Model;
 
+/// From this many rows on, one call to make room costs less than growth in steps.
+const MANY_ROWS: usize = 256;
+
 /// Partitions by key range, asked by one thread. Contracts see the splits, the limits of each partition, and the
 /// partitions.
 ///
@@ -143,12 +146,12 @@ impl Core {
         routes::parts_of(*self.splits.allocator(), &self.splits, range)
     }
 
-    /// Makes room for `rows` insertions if there is only one partition, and memory for them is found. Changes nothing
-    /// else. O(1), except for growth.
+    /// Makes room for `rows` insertions if they are many, there is only one partition, and memory for them is found.
+    /// Changes nothing else. O(1), except for growth.
     pub(crate) fn make_room_for(&mut self, rows: usize)
         ensures { self.new ≡ self.old }
     {
-        if self.partitions.len() == 1 {
+        if rows >= MANY_ROWS && self.partitions.len() == 1 {
             self.partitions[0].make_room_for(rows);
         }
     }
