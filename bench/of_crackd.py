@@ -182,7 +182,7 @@ def measure_splits(table, _runs):
 # the lines after the inserts, by where the rows then are, which memory is read, and how many bytes a row may take
 HELD = {
     "pending": ([], "VmHWM", 100),
-    "in the column": ([f"count {sizes.EVERYTHING}"], "VmRSS", 110),
+    "in the column": ([f"count {sizes.EVERYTHING}"], "VmRSS", 100),
     "in the column, at the peak of the merge": ([f"count {sizes.EVERYTHING}"], "VmHWM", 160),
     "pending, after a checkpoint": (["checkpoint 0"], "VmRSS", 125),
     "in the column, after a checkpoint": ([f"count {sizes.EVERYTHING}", "checkpoint 0"], "VmRSS", 125),

@@ -32,18 +32,18 @@ pub struct CrackerColumn {
 }
 
 impl Model for CrackerColumn {
-    ghost use Rattle.std.specs.Prelude.{length};
+    ghost use Rattle.std.specs.Prelude.{drop, length, map, take};
     ghost use Rattle.crack_column.specs.Column.{Column};
     ghost use Rattle.crack_column.specs.Keeps.{IsSoundColumn};
-    ghost use Rattle.crack_column.specs.Places.{handles_in, remembered_in, room_after, aside_in};
+    ghost use Rattle.crack_column.specs.Places.{tag_handle, memory_of, room_after, aside_of};
 
     ghost Value = { Column };
 
     ghost view = { λ c. record {
-      handles = handles_in c.tags.items c.len;
-      remembered = remembered_in c.tags.items c.len;
+      handles = map tag_handle (take c.len c.tags.items);
+      remembered = map memory_of (take c.len c.tags.items);
       room = room_after (length c.tags.items) c.tags.capacity c.len;
-      aside = aside_in c.tags.items c.len;
+      aside = map aside_of (drop c.len c.tags.items);
     } };
 
     ghost invariant = { λ c. IsSoundColumn c.tags.items c.len c.unread };
