@@ -433,7 +433,7 @@ class LocalShard:
         return sum(it.rows for it in self._totals())
 
     def memory(self) -> int:
-        """About how many bytes the library takes for the rows, estimated from the layouts. Excludes histories."""
+        """About how many bytes the library takes for the rows, estimated from the layouts."""
         parts = [it for it in self._totals() if it.cells]
         return sum(BYTES_OF_A_PART + it.cells * BYTES_OF_A_CELL + it.pieces * BYTES_OF_A_PIECE for it in parts)
 
