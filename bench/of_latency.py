@@ -88,17 +88,43 @@ def measure_crowds(table, runs):
     """Clients with one request each in flight, and how many replies they get in a second."""
     if shutil.which(REDIS) is None:
         return
-    replies = {}
     with many_descriptors():
         for clients in sizes.CROWDS:
             rounds = max(1, sizes.CROWD_ROUNDS // clients)
             ours, theirs = latencies(runs, rounds, clients)
             tell(table, f"by {clients} clients", ours, theirs)
-            replies[clients] = [clients * rounds * kinds * 1e9 / it["all"] for it, kinds in ((ours, 5), (theirs, 4))]
-            table.gain(f"replies a second to {clients} clients, beside Redis", *replies[clients])
+            replies = [clients * rounds * kinds * 1e9 / it["all"] for it, kinds in ((ours, 5), (theirs, 4))]
+            table.gain(f"replies a second to {clients} clients, beside Redis", *replies)
+
+
+def replies_by_turns(*splits):
+    """How many replies a second crowds of each size get from one server, each client with one request in flight: for
+    each turn a list."""
+    with crackd("--policy", "auto", *splits) as server:
+        words = ["crowds", server.port, sizes.PART_ROWS, sizes.TURN_ROUNDS, sizes.CROWD_TURNS, *sizes.CROWDS]
+        wrote, took = timed([PEERS, *map(str, words)])
+        server.close()
+        _, totals, _ = server.ended()
+    # a range over two partitions is a command to each of them
+    fixtures.expect("rows inserted, deleted and held", wrote.split()[1:], totals.split()[3::2])
+    kinds = len(REQUESTS) + len(SUM)
+    sent = {clients: clients * (sizes.TURN_ROUNDS // clients) * kinds for clients in sizes.CROWDS}
+    turns = range(1, sizes.CROWD_TURNS + 1)
+    return [[many * 1e9 / took[f"{clients}_{turn}"] for clients, many in sent.items()] for turn in turns]
+
+
+def measure_crowds_by_turns(table, _runs):
+    """How many replies a second many clients get, beside few of the same server. The crowds work by turns, so that all
+    meet the same machine."""
     few, *many = sizes.CROWDS
-    for clients in many:
-        table.gain(f"replies a second to {clients} clients, beside {few}", replies[clients][0], replies[few][0], 1.0)
+    with many_descriptors():
+        for splits in ([], SPLITS):
+            parts = f"{len(splits) + 1} part" + "s" * bool(splits)
+            least, *others = zip(*replies_by_turns(*splits))
+            beside = statistics.median(least)
+            for clients, each in zip(many, others):
+                gain = statistics.median(after / before for before, after in zip(least, each))
+                table.gain(f"replies a second to {clients} clients, {parts}, beside {few}", gain * beside, beside, 1.0)
 
 
 def idle_bytes(process, port):
@@ -152,4 +178,8 @@ def measure_stalls(table, _runs):
         tell_stalls(table, "a ping beside these", of(took, "ping"), MOST_GROWTH, False)
 
 
-MEASURES = {"latency": [measure_latency], "crowds": [measure_crowds, measure_idle], "stalls": [measure_stalls]}
+MEASURES = {
+    "latency": [measure_latency],
+    "crowds": [measure_crowds_by_turns, measure_crowds, measure_idle],
+    "stalls": [measure_stalls],
+}

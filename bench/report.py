@@ -449,7 +449,7 @@ everything, and then answers {measured.ranges} sums, each of a hundredth of thes
 
 {table_of(series)}
 
-The two cracker columns in plain Rust take the same steps as `crackd` under `gradual`.
+The two cracker columns in plain Rust take the same steps as `crackd` under `gradual`, the policy of the tables without updates on this page.
 
 ## Queries between updates
 
@@ -516,8 +516,8 @@ Each line says how many times as fast the other program is.
 {contest_table([it for it in contests if it.ours >= it.theirs], lambda it: it.ours / it.theirs)}
 
 The sorted array is sorted, and SQLite's index is built, before the first count is answered; after that neither cracks anything. A scan reads each row and sorts
-nothing; so does SQLite without an index, which ran once. None of these keeps the commands that it answered. SQLite is called from Python, and its times include
-that. Counts of one key are sent to `crackd script`, and include reading lines and writing replies.
+nothing; so does SQLite without an index, which ran once. SQLite is called from Python, and its times include that. Counts of
+one key are sent to `crackd script`, and include reading lines and writing replies.
 
 ## Where it is faster
 

@@ -40,6 +40,8 @@ LATENCY_ROUNDS = 30_000
 # how many clients have one request each in flight, and how many rounds of requests they send in all; how many clients
 # are idle; rows that are listed while requests are measured, or inserted one by one, and how many rounds of requests
 CROWDS, CROWD_ROUNDS, IDLE, STALL_ROWS, STALL_ROUNDS = (4, 1000, 10_000), 100_000, 10_000, 1_000_000, 20_000
+# how many rounds a crowd sends in a turn, and how many turns each has
+TURN_ROUNDS, CROWD_TURNS = 20_000, 9
 # rows of a table of several shards, and how many calls each of its threads makes
 SHARDED_ROWS, CALLS = (500_000, 8_000_000), 20_000
 EVERYTHING = f"0 {2**64}"
@@ -81,6 +83,8 @@ def shrink():
         "LATENCY_ROUNDS": 100,
         "CROWDS": (4, 100),
         "CROWD_ROUNDS": 400,
+        "TURN_ROUNDS": 400,
+        "CROWD_TURNS": 2,
         "IDLE": 100,
         "STALL_ROWS": 4000,
         "STALL_ROUNDS": 100,

@@ -55,37 +55,73 @@ fn checked(result: i32) -> io::Result<i32> {
     if result < 0 { Err(io::Error::last_os_error()) } else { Ok(result) }
 }
 
-/// What requests took, by their place in a round, and what was answered.
-struct Heard {
-    took: Vec<Vec<u64>>,
-    totals: Totals,
+/// What requests took, by their place in a round.
+type Took = Vec<Vec<u64>>;
+
+/// The clients of one thread.
+struct Group {
+    server: Server,
+    clients: Vec<Client>,
+    poll: Poll,
 }
 
-/// Has each client send its requests, one once the reply to the one before has come, for this many rounds.
-fn ask_all(server: Server, mut clients: Vec<Client>, rounds: usize) -> io::Result<Heard> {
-    let (poll, kinds) = (Poll::new(&clients)?, server.requests());
-    let mut heard = Heard { took: vec![Vec::new(); kinds], totals: Totals::default() };
-    let mut asked = vec![(0, Instant::now()); clients.len()];
-    for (client, (_, when)) in clients.iter_mut().zip(&mut asked) {
-        *when = Instant::now();
-        client.ask(0)?;
+impl Group {
+    fn new(server: Server, clients: Vec<Client>) -> io::Result<Group> {
+        let poll = Poll::new(&clients)?;
+        Ok(Group { server, clients, poll })
     }
-    let mut left = clients.len();
-    while left > 0 {
-        for place in poll.wait()? {
-            let (client, (done, when)) = (&mut clients[place], &mut asked[place]);
-            heard.took[*done % kinds].push(client.hear(*done % kinds, *when)?);
-            *done += 1;
-            if *done == rounds * kinds {
-                left -= 1;
-            } else {
-                *when = Instant::now();
-                client.ask(*done % kinds)?;
+
+    /// Has each client send its requests, one once the reply to the one before has come, for this many rounds.
+    fn ask(&mut self, rounds: usize) -> io::Result<Took> {
+        let kinds = self.server.requests();
+        let mut took = vec![Vec::new(); kinds];
+        let mut asked = vec![(0, Instant::now()); self.clients.len()];
+        for (client, (_, when)) in self.clients.iter_mut().zip(&mut asked) {
+            *when = Instant::now();
+            client.ask(0)?;
+        }
+        let mut left = self.clients.len();
+        while left > 0 {
+            for place in self.poll.wait()? {
+                let (client, (done, when)) = (&mut self.clients[place], &mut asked[place]);
+                took[*done % kinds].push(client.hear(*done % kinds, *when)?);
+                *done += 1;
+                if *done == rounds * kinds {
+                    left -= 1;
+                } else {
+                    *when = Instant::now();
+                    client.ask(*done % kinds)?;
+                }
             }
         }
+        Ok(took)
     }
-    clients.iter().for_each(|it| heard.totals.add(&it.totals));
-    Ok(heard)
+}
+
+/// Clients of a server, divided among the threads.
+struct Crowd(Vec<Group>);
+
+impl Crowd {
+    /// Connects so many clients, which have numbers from this one on.
+    fn connect(server: Server, port: u16, clients: usize, first: usize) -> io::Result<Crowd> {
+        let mut groups: Vec<Vec<Client>> = (0..THREADS).map(|_| Vec::new()).collect();
+        for number in 0..clients {
+            groups[number % THREADS].push(Client::connect(server, port, (first + number) as u64)?);
+        }
+        Ok(Crowd(groups.into_iter().map(|it| Group::new(server, it)).collect::<io::Result<_>>()?))
+    }
+
+    /// Has all ask at once for this many rounds each. Returns what each thread's requests took.
+    fn ask(&mut self, rounds: usize) -> io::Result<Vec<Took>> {
+        thread::scope(|scope| {
+            let asking: Vec<_> = self.0.iter_mut().map(|it| scope.spawn(move || it.ask(rounds))).collect();
+            asking.into_iter().map(|it| it.join().expect("no thread failed")).collect()
+        })
+    }
+
+    fn add_totals(&self, totals: &mut Totals) {
+        self.0.iter().flat_map(|it| &it.clients).for_each(|it| totals.add(&it.totals));
+    }
 }
 
 /// Loads a server that listens to the port with rows, and measures so many clients that send this many rounds of
@@ -93,21 +129,39 @@ fn ask_all(server: Server, mut clients: Vec<Client>, rounds: usize) -> io::Resul
 pub fn run(server: Server, port: u16, rows: u64, clients: usize, rounds: usize) -> io::Result<()> {
     let mut first = Client::connect(server, port, 0)?;
     first.load(rows)?;
-    let mut groups: Vec<Vec<Client>> = (0..THREADS).map(|_| Vec::new()).collect();
-    for number in 0..clients {
-        groups[number % THREADS].push(Client::connect(server, port, number as u64 + 1)?);
-    }
+    let mut crowd = Crowd::connect(server, port, clients, 1)?;
     let start = Instant::now();
-    let heard = thread::scope(|scope| {
-        let asking: Vec<_> =
-            groups.into_iter().map(|group| scope.spawn(move || ask_all(server, group, rounds))).collect();
-        asking.into_iter().map(|it| it.join().expect("no thread failed")).collect::<io::Result<Vec<_>>>()
-    })?;
+    let heard = crowd.ask(rounds)?;
     crate::report("all", start);
     for (at, name) in REQUESTS.into_iter().enumerate().take(server.requests()) {
-        report(name, heard.iter().flat_map(|it| it.took[at].iter().copied()).collect());
+        report(name, heard.iter().flat_map(|it| it[at].iter().copied()).collect());
     }
-    heard.iter().for_each(|it| first.totals.add(&it.totals));
+    crowd.add_totals(&mut first.totals);
+    first.totals.print();
+    Ok(())
+}
+
+/// Loads a server of `crackd`, and measures crowds of these sizes by turns: while one works the others are silent. In a
+/// turn a crowd sends about this many rounds of requests in all. The first turn of each isn't reported, since the first
+/// counts merge and crack the loaded rows. Prints how many commands were answered, rows inserted, deleted and left.
+pub fn run_by_turns(port: u16, rows: u64, rounds: usize, turns: usize, sizes: &[usize]) -> io::Result<()> {
+    let mut first = Client::connect(Server::Crackd, port, 0)?;
+    first.load(rows)?;
+    let (mut crowds, mut number) = (Vec::new(), 1);
+    for clients in sizes {
+        crowds.push(Crowd::connect(Server::Crackd, port, *clients, number)?);
+        number += clients;
+    }
+    for turn in 0..=turns {
+        for (crowd, clients) in crowds.iter_mut().zip(sizes) {
+            let start = Instant::now();
+            crowd.ask(rounds / clients)?;
+            if turn > 0 {
+                crate::report(&format!("{clients}_{turn}"), start);
+            }
+        }
+    }
+    crowds.iter().for_each(|it| it.add_totals(&mut first.totals));
     first.totals.print();
     Ok(())
 }

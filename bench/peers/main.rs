@@ -10,8 +10,9 @@
 //! `peers client PORT FILE` and `peers turns PORT FILE` send a file's statements to a server on this machine, all at
 //! once or one by one, and `peers echo PORT` is such a server. `peers crackd|redis PORT ROWS ROUNDS` inserts rows into
 //! a server, and then measures single requests while other clients load it; with a further number, those of so many
-//! clients. `peers list PORT PROCESS ROWS LISTERS ROUNDS` does it while clients list all rows, and `peers grow PORT
-//! PROCESS ROWS` measures inserts.
+//! clients. `peers crowds PORT ROWS ROUNDS TURNS CLIENTS ..` measures crowds of these sizes by turns. `peers list PORT
+//! PROCESS ROWS LISTERS ROUNDS` measures single requests while clients list all rows, and `peers grow PORT PROCESS
+//! ROWS` inserts.
 //!
 //! What a run computes goes to standard output, and must be what the measured program writes there. Times go to
 //! standard error, in nanoseconds, a line `NAME NUMBER` each, followed by what the merges did, if that is counted.
@@ -91,6 +92,12 @@ fn main() {
             };
             ran.expect("a server answers");
         }
+        Some("crowds") => {
+            let (port, rows) = (port(words.next()), number(words.next()));
+            let [rounds, turns] = [(); 2].map(|()| number(words.next()) as usize);
+            let sizes: Vec<usize> = words.map(|it| number(Some(it)) as usize).collect();
+            crowd::run_by_turns(port, rows, rounds, turns, &sizes).expect("a server answers");
+        }
         Some("list") => {
             let port = port(words.next());
             let [process, rows, listers, rounds] = [(); 4].map(|()| number(words.next()));
@@ -108,7 +115,7 @@ fn main() {
         Some("echo") => client::echo(port(words.next())).expect("a client that reads"),
         _ => panic!(
             "session, arena, column, counts, sums, each, rising, narrow, cold, pass, updates, ageing, merge, pulls, \
-             fold, own, shared, copies, crackd, redis, list, grow, client, turns or echo"
+             fold, own, shared, copies, crackd, redis, crowds, list, grow, client, turns or echo"
         ),
     }
 }

@@ -139,7 +139,7 @@ class AnyTable(Questions):
         return self._settle()
 
     def checkpoint(self) -> int:
-        """Empties the histories, which frees their memory. Returns how many entries they had.
+        """Empties the histories. Returns how many commands were accepted since they were last emptied.
 
         Rows and their numbers stay.
         """

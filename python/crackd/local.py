@@ -22,9 +22,6 @@ from .typed import RowNumbers
 HISTORY = 65_536
 MOST_CELLS = 16_777_215
 MOST_LIFE = 1 << 40
-# a history keeps the rows that selects listed, so histories are emptied once these exceed the shard's rows by more than
-# this many
-LISTED = 100_000
 # A single call holds the interpreter's lock if it reads or moves at most this many rows. Then it takes about 4 ms at
 # most, and the interpreter itself lets a thread run for 5 ms. Releasing the lock and getting it back takes longer than
 # to answer such a call.
@@ -60,8 +57,8 @@ class LocalShard:
         self._policy, self.cuts, self.partitions = POLICIES.index(policy), list(cuts), len(cuts) + 1
         limits = [it if 0 <= it < TOP else 0 for it in (history, cells, MOST_LIFE)]
         self._check(self._run(self._library.open, from_ints("Q", cuts, "splits"), *limits))
-        # about how many rows the shard has; how many rows selects have listed since the last checkpoints
-        self.held = self._listed = 0
+        # about how many rows the shard has
+        self.held = 0
         # A call is short if it meets at most `_short_parts` partitions. All calls are short for `_left` more changes.
         # If that is 0, `_look` finds these numbers again after `_until_look` more changes and calls.
         self._left, self._until_look, self._short_parts = LOOK, 0, self.partitions
@@ -399,9 +396,6 @@ class LocalShard:
             while True:
                 lists = empty("I", room), empty("Q", room), empty("Q", room), empty("q", room)
                 self._check(self._run(self._library.select, self._policy, first, last, *lists, byref(found)))
-                self._listed += found.value
-                if self._listed > self.held + LISTED:
-                    self._fold()
                 # if not, a signal handler has changed the table after the count
                 if found.value == room:
                     break
@@ -418,14 +412,11 @@ class LocalShard:
 
     def checkpoint(self) -> int:
         """Makes a checkpoint of each partition. Returns how many commands they accepted since their last ones."""
+        folded, each = 0, c_uint64()
         with self._lock:
-            return self._fold()
-
-    def _fold(self) -> int:
-        folded, each, self._listed = 0, c_uint64(), 0
-        for part in range(self.partitions):
-            self._check(self._library.checkpoint(self._ref, part, byref(each)))
-            folded += each.value
+            for part in range(self.partitions):
+                self._check(self._library.checkpoint(self._ref, part, byref(each)))
+                folded += each.value
         return folded
 
     def rows(self) -> int:
@@ -433,7 +424,7 @@ class LocalShard:
         return sum(it.rows for it in self._totals())
 
     def memory(self) -> int:
-        """About how many bytes the library takes for the rows, estimated from the layouts. Excludes histories."""
+        """About how many bytes the library takes for the rows, estimated from the layouts."""
         parts = [it for it in self._totals() if it.cells]
         return sum(BYTES_OF_A_PART + it.cells * BYTES_OF_A_CELL + it.pieces * BYTES_OF_A_PIECE for it in parts)
 

@@ -14,7 +14,6 @@ from unittest import mock
 from ways import InProcess, InShards, crackd, np, wants_library, wants_numpy, wants_shards
 
 from crackd import library
-from crackd import local
 
 THREADS, CALLS, SECONDS_OF_A_CALL = 12, 4, 0.001
 MANY = ("insert_many", "delete_many", "update_many", "count_many", "sum_many")
@@ -301,36 +300,27 @@ class Children(InProcess, unittest.TestCase):
 
 
 @wants_library
-class Histories(InProcess, unittest.TestCase):
-    """Histories keep what selects listed, so they are emptied as selects go on: after about 100,000 listed rows, and as
-    many as the table has. The number of entries that `checkpoint` reports shows it."""
+class Held(InProcess, unittest.TestCase):
+    """About how many rows a table has, as its shards count them beside the library; and loops of selects, which make no
+    checkpoints."""
 
-    ROWS, SELECTS = 1000, 300
-
-    def entries(self, table, selects):
-        """How many entries the histories have after these selects of all rows."""
-        table.settle()
-        table.checkpoint()
-        for _ in range(selects):
-            self.assertEqual(len(table.select().rows), self.ROWS)
-        return table.checkpoint()
+    @staticmethod
+    def held(table):
+        return sum(it.held for it in table._shards)
 
     def test_a_loop_of_selects(self):
         with self.table() as table:
-            table.insert_many(range(self.ROWS), range(self.ROWS))
-            self.assertGreaterEqual(self.entries(table, 50), 50)
-            self.assertLess(self.entries(table, self.SELECTS), 250)
-
-    def test_rows_that_are_gone_make_no_room(self):
-        with self.table(rows=400_000) as table:
-            rows = table.insert_many(range(400_000), range(400_000))
-            self.assertTrue(all(table.delete_many(rows[self.ROWS :])))
-            self.assertLess(self.entries(table, self.SELECTS), 250)
+            table.insert_many(range(1000), range(1000))
+            table.settle()
+            table.checkpoint()
+            for _ in range(300):
+                self.assertEqual(len(table.select().rows), 1000)
+            # a select counts first, which is a command too
+            self.assertEqual(table.checkpoint(), 600)
 
     def test_rows_that_come_and_go_one_by_one(self):
-        # each select lists 1,000 rows, and with the third one more than 2,000 are listed
         for way, remains in [("one", 1000), ("many", 1000), ("none", 4000)]:
-            with self.subTest(way), mock.patch.object(local, "LISTED", 1000), self.table() as table:
+            with self.subTest(way), self.table() as table:
                 rows = [table.insert(it, 1) for it in range(4000)]
                 if way == "one":
                     self.assertTrue(all([table.delete(it) for it in rows[1000:]]))
@@ -338,24 +328,17 @@ class Histories(InProcess, unittest.TestCase):
                 elif way == "many":
                     self.assertTrue(all(table.delete_many(rows[1000:])))
                     self.assertFalse(any(table.delete_many(rows[1000:])))
-                self.assertEqual(len(table), remains)
-                table.checkpoint()
-                for _ in range(4):
-                    self.assertEqual(len(table.select(0, 1000).rows), 1000)
-                self.assertEqual(table.checkpoint() < 6, way != "none")
+                self.assertEqual((len(table), self.held(table)), (remains, remains))
 
     def test_each_way_to_insert_and_to_delete_counts(self):
-        # A select lists 100 rows and makes two entries, since it counts first. With 400 rows in the table the entries
-        # of all four selects are kept. With 100 rows, the rows listed by three selects exceed those by more than 100.
         for shards in (1,) if np is None else (1, 2):
             for insert, delete in itertools.product(self.INSERTS, self.DELETES):
                 with self.subTest(shards=shards, insert=insert, delete=delete):
-                    with mock.patch.object(local, "LISTED", 100):
-                        with crackd.Table(splits=[1000], shards=shards, rows=1000) as table:
-                            rows = numbers(self.INSERTS[insert](table))
-                            self.assertEqual(self.entries_of_four(table), 8)
-                            self.DELETES[delete](table, rows[100:])
-                            self.assertEqual(self.entries_of_four(table), 2)
+                    with crackd.Table(splits=[1000], shards=shards, rows=1000) as table:
+                        rows = numbers(self.INSERTS[insert](table))
+                        self.assertEqual(self.held(table), 400)
+                        self.DELETES[delete](table, rows[100:])
+                        self.assertEqual(self.held(table), 100)
 
     @staticmethod
     def few(table):
@@ -382,13 +365,6 @@ class Histories(InProcess, unittest.TestCase):
         "range": lambda table, rows: table.delete_range(100, 400),
     }
 
-    def entries_of_four(self, table):
-        """How many entries the histories have after four selects of 100 rows."""
-        table.settle(), table.checkpoint()
-        for _ in range(4):
-            self.assertEqual(len(table.select(0, 100).rows), 100)
-        return table.checkpoint()
-
     def test_a_deletion_that_is_refused_counts_as_far_as_it_came(self):
         def refusing(real, *words):
             # deletes nothing, reports 300 rows as done, and also sets the flags of later rows, which don't count
@@ -396,19 +372,19 @@ class Histories(InProcess, unittest.TestCase):
             words[-1]._obj.value = 300
             return 8
 
-        with mock.patch.object(local, "LISTED", 100), crackd.Table() as table:
+        with crackd.Table() as table:
             rows = table.insert_many(range(400), [1] * 400)
             with standing_in(delete_many=refusing):
                 self.assertRaises(crackd.OutOfMemory, table.delete_many, [*rows, *rows, *rows])
             # 300 rows count as deleted, as if 100 were left
-            self.assertEqual(self.entries_of_four(table), 2)
+            self.assertEqual(self.held(table), 100)
 
     def test_memory_of_a_loop_of_selects(self):
         def resident():
             with open("/proc/self/statm", encoding="ascii") as file:
                 return int(file.read().split()[1]) * os.sysconf("SC_PAGE_SIZE")
 
-        # the last 1,000 selects list 5 million rows, each of which takes 8 bytes or more in a history
+        # the last 1,000 selects list 5 million rows
         with self.table() as table:
             table.insert_many(range(5000), range(5000))
             for number in range(1200):
@@ -416,15 +392,6 @@ class Histories(InProcess, unittest.TestCase):
                 if number == 200:
                     before = resident()
             self.assertLess(resident() - before, 20_000_000)
-
-    def test_rows_that_are_there_make_room(self):
-        with self.table(range(100_000), rows=400_000, shards=1) as table:
-            table.insert_many(range(self.ROWS, 400_000), [0] * (400_000 - self.ROWS))
-            table.settle()
-            table.checkpoint()
-            for _ in range(self.SELECTS):
-                table.select(self.ROWS, 2 * self.ROWS)
-            self.assertGreaterEqual(table.checkpoint(), self.SELECTS)
 
 
 @wants_library

@@ -1,4 +1,4 @@
-"""Tables in the process that are refused memory, and what frees the memory of their histories."""
+"""Tables in the process that are refused memory, and memory that doesn't grow."""
 
 import os
 import pathlib
@@ -166,32 +166,6 @@ class Kept(unittest.TestCase):
             call_together(50_000)
             self.assertLess(resident() - before, 5_000_000)
             self.assertEqual((gone, table.count()), ([52_500] * 4, 0))
-
-
-@wants_library
-class Listed(unittest.TestCase):
-    """When selects empty the histories, which keep the rows that they listed."""
-
-    def test_selects_make_checkpoints_once_they_listed_more_than_the_rows_and_some(self):
-        with mock.patch.object(crackd.local, "LISTED", 10), crackd.Table() as table:
-            rows = table.insert_many(range(20), range(20))
-            loaded = library.library()
-            with mock.patch.object(loaded, "checkpoint", wraps=loaded.checkpoint) as checkpoint:
-
-                def expect(lists, made):
-                    """The last of these selects makes a checkpoint, and none before it."""
-                    for ends in lists:
-                        self.assertEqual(checkpoint.call_count, made - 1)
-                        table.select(*ends)
-                    self.assertEqual(checkpoint.call_count, made)
-
-                expect([(0, 15), (0, 15), (0, 1)], 1)
-                self.assertTrue(all([table.delete(row) for row in rows[:6]]))
-                self.assertTrue(all(table.delete_many(rows[6:10])))
-                self.assertFalse(table.delete(rows[0]))
-                expect([(0, 20), (10, 20), (10, 11)], 2)
-                table.insert(10, 1)
-                expect([(0, 20), (11, 20), (19, 20), (10, 11)], 3)
 
 
 if __name__ == "__main__":
