@@ -67,7 +67,8 @@ impl KnownSums {
     /// Records that `row` replaced `before`, the row with its serial, if there was one. O(log pieces), amortised.
     pub(crate) fn replace(&mut self, before: Option<Row>, row: Row, next: u64)
         ensures knows { (plain : PlainState) → IsNumbered plain → row_in plain.rows row.serial ≡ before →
-            KnowsSums self.old plain → KnowsSums self.new (after plain (Command.Update row.serial row.key row.payload)) }
+            KnowsSums self.old plain →
+            KnowsSums self.new (after plain (Command.Update row.serial row.key row.payload)) }
         ensures stay { IsFresh next self.old → keys_of self.new.pieces ≡ keys_of self.old.pieces }
     {
         let Some(before) = before else {
