@@ -102,11 +102,13 @@ impl Group {
 struct Crowd(Vec<Group>);
 
 impl Crowd {
-    /// Connects so many clients, which have numbers from this one on.
-    fn connect(server: Server, port: u16, clients: usize, first: usize) -> io::Result<Crowd> {
+    /// Connects so many clients, which have numbers from this one on. Each inserts this many rows ahead.
+    fn connect(server: Server, port: u16, clients: usize, first: usize, ahead: usize) -> io::Result<Crowd> {
         let mut groups: Vec<Vec<Client>> = (0..THREADS).map(|_| Vec::new()).collect();
         for number in 0..clients {
-            groups[number % THREADS].push(Client::connect(server, port, (first + number) as u64)?);
+            let mut client = Client::connect(server, port, (first + number) as u64)?;
+            client.insert_ahead(ahead)?;
+            groups[number % THREADS].push(client);
         }
         Ok(Crowd(groups.into_iter().map(|it| Group::new(server, it)).collect::<io::Result<_>>()?))
     }
@@ -129,7 +131,7 @@ impl Crowd {
 pub fn run(server: Server, port: u16, rows: u64, clients: usize, rounds: usize) -> io::Result<()> {
     let mut first = Client::connect(server, port, 0)?;
     first.load(rows)?;
-    let mut crowd = Crowd::connect(server, port, clients, 1)?;
+    let mut crowd = Crowd::connect(server, port, clients, 1, 0)?;
     let start = Instant::now();
     let heard = crowd.ask(rounds)?;
     crate::report("all", start);
@@ -142,14 +144,16 @@ pub fn run(server: Server, port: u16, rows: u64, clients: usize, rounds: usize) 
 }
 
 /// Loads a server of `crackd`, and measures crowds of these sizes by turns: while one works the others are silent. In a
-/// turn a crowd sends about this many rounds of requests in all. The first turn of each isn't reported, since the first
-/// counts merge and crack the loaded rows. Prints how many commands were answered, rows inserted, deleted and left.
+/// turn a crowd sends about this many rounds of requests in all. Of each crowd a row is deleted after about as many
+/// others were inserted, so that the server has the same work; else the rows of few clients are deleted while they are
+/// pending. The first turn of each isn't reported, since the first counts merge and crack the loaded rows. Prints how
+/// many commands were answered, rows inserted, deleted and left.
 pub fn run_by_turns(port: u16, rows: u64, rounds: usize, turns: usize, sizes: &[usize]) -> io::Result<()> {
     let mut first = Client::connect(Server::Crackd, port, 0)?;
     first.load(rows)?;
-    let (mut crowds, mut number) = (Vec::new(), 1);
+    let (mut crowds, mut number, most) = (Vec::new(), 1, sizes.iter().max().copied().unwrap_or(0));
     for clients in sizes {
-        crowds.push(Crowd::connect(Server::Crackd, port, *clients, number)?);
+        crowds.push(Crowd::connect(Server::Crackd, port, *clients, number, most / clients)?);
         number += clients;
     }
     for turn in 0..=turns {

@@ -1,8 +1,8 @@
 //! How long single requests wait for their replies, while other clients load the same server.
 
 use crate::numbers::Numbers;
+use std::collections::VecDeque;
 use std::io::{self, BufRead, BufReader, ErrorKind, Write};
-use std::mem;
 use std::net::{Ipv4Addr, TcpStream};
 use std::sync::atomic::{AtomicBool, Ordering};
 use std::thread;
@@ -76,9 +76,9 @@ pub struct Client {
     next: u64,
     requests: Vec<u8>,
     reply: String,
-    /// Where the last counted range begins, and the name of the last row.
+    /// Where the last counted range begins, and the names of the rows that are deleted next.
     low: u64,
-    row: String,
+    rows: VecDeque<String>,
     pub totals: Totals,
 }
 
@@ -94,7 +94,7 @@ impl Client {
             requests: Vec::new(),
             reply: String::new(),
             low: 0,
-            row: String::new(),
+            rows: VecDeque::new(),
             totals: Totals::default(),
         };
         if server == Server::Crackd {
@@ -145,8 +145,8 @@ impl Client {
         }
     }
 
-    /// Adds the request of a round with this place: a count of a new range, the same again, an insert, the row's
-    /// delete, and the sum of the range.
+    /// Adds the request of a round with this place: a count of a new range, the same again, an insert, the delete of
+    /// the first row that is left, and the sum of the range.
     fn add(&mut self, at: usize) {
         match at {
             0 => {
@@ -156,7 +156,7 @@ impl Client {
             1 => self.add_count(self.low),
             2 => self.add_insert(),
             3 => {
-                let row = mem::take(&mut self.row);
+                let row = self.rows.pop_front().unwrap_or_default();
                 self.add_delete(&row);
             }
             _ => {
@@ -172,7 +172,8 @@ impl Client {
         match at {
             0 | 1 => self.read_count(),
             2 => {
-                self.row = self.read_row()?;
+                let row = self.read_row()?;
+                self.rows.push_back(row);
                 Ok(())
             }
             3 => self.read_deleted(),
@@ -233,6 +234,14 @@ impl Client {
             (0..CHUNK).try_for_each(|_| self.read_row().map(drop))?;
         }
         Ok(())
+    }
+
+    /// Inserts rows, one by one. Then each row is deleted after this many others were inserted.
+    pub fn insert_ahead(&mut self, rows: usize) -> io::Result<()> {
+        (0..rows).try_for_each(|_| {
+            self.ask(2)?;
+            self.read_reply(2)
+        })
     }
 
     /// Counts a new range, inserts a row and deletes the one before, three requests at a time, until it is stopped.

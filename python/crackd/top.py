@@ -49,7 +49,7 @@ ABOUT = {
     "clients": "Clients that are connected.",
     "sessions": "Sessions that have begun.",
     "statements_per_second": "Statements answered a second, over the last minute.",
-    "longest_microseconds": "The longest that a statement took in the last minute.",
+    "longest_microseconds": "The longest time for the statements of one read, in the last minute.",
     "uptime_seconds": "Seconds since the server started.",
 }
 

@@ -26,7 +26,7 @@ MEANINGS = {
     "13": "the number of workers isn't 1 to 64",
     "14": "a limit is out of its range: histories 1 to 1000000, cells 1 to 16777215, lives 1 to 1099511627776",
     "15": "a worker's receipts are missing",
-    "16": "receipts and histories don't agree",
+    "16": "workers and partitions don't agree at the end",
     "17": "reading failed, or the server can't listen on the port",
     "18": "writing failed",
     "19": "a record isn't a key from 0 to 18446744073709551615 and a payload from -9223372036854775808 to "
