@@ -568,6 +568,10 @@ answer fewer statements in the same time: workers that share a partition wait fo
 
 {worker_table(measured.workers)}
 
+Of 4 clients and of 1,000, with one request each in flight and by turns at one server with four workers, the 1,000 get 1.3 times as many replies in the same time
+over 64 partitions, but 0.8 times as many over one, where they wait for its lock (the program compiled without its proof, beside other work, 30 November 2026).
+An insert at which a checkpoint is due takes at most 1.1 ms of the server's processor time, with `--limit 65536`.
+
 The workers of a server are gathered by counts, and keep receipts only for an audit.
 
 {audits_table(measured.audits)}
