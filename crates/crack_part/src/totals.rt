@@ -1,5 +1,5 @@
 //! The keys, the limits and the totals of a partition.
-ghost use Rattle.std.specs.Prelude.{◌≡◌, ◌+◌, ◌≤◌, length};
+ghost use Rattle.std.specs.Prelude.{◌≡◌, ◌≤◌, length};
 ghost use Rattle.crack_row.specs.Limits.{AreLimits};
 ghost use Rattle.crack_plain.specs.Plain.{accepted_of};
 ghost use Rattle.crack_state.specs.State.{live_rows};
@@ -52,13 +52,6 @@ impl Partition {
         ensures { result ≡ self.now.next }
     {
         self.next
-    }
-
-    /// The number of rows deleted since the partition was opened. O(1).
-    pub fn deletions(&self) -> u64
-        ensures { result + length (state_of self.now).rows ≡ self.now.next }
-    {
-        self.insertions() - self.rows()
     }
 
     /// The number of rows. O(1).

@@ -55,13 +55,6 @@ impl<J: Naming> Front<J> {
             of: PhantomData,
         }
     }
-
-    /// Adds the events that `other` has seen.
-    pub fn learn(&mut self, other: &Front<J>)
-        ensures { IsPrefix self.old self.new × IsPrefix other.now self.new }
-    {
-        self.seen.learn(&other.seen);
-    }
 }
 
 /// An entry that is to be added to the book, and the pen for the partition's entry after it.
