@@ -149,7 +149,7 @@ module _ (s u : State) (hand : List Handle) (bound : InnerBound) (c : CracksAt s
               ]
             ];
         kept = λ n is. rw marks (Contains-kept new_mark s.marks n is);
-        with_mark = λ b is. rw marks ((HasBound-added new_mark s.marks b).1 (inl is.0));
+        added = λ b is. rw marks ((HasBound-added new_mark s.marks b).1 (inl is.0));
         only = λ b has. elim ((HasBound-added new_mark s.marks b).0 (rw marks at has)) [
           | inl is ↦ inr (is, omega (arith, c.low), omega (arith, c.high))
           | inr there ↦ inl there
@@ -180,7 +180,7 @@ RefinesBy-refl IsNew s there = record {
   long = refl;
   pieces = λ p q is_p is_q. IsPermutation-refl (between p q s.column);
   kept = λ m is. is;
-  with_mark = there;
+  added = there;
   only = λ b has. inl has;
 }
 
@@ -191,7 +191,7 @@ RefinesBy-trans New First Second s u v is_new new_is a b = record {
   long = b.long ∙ a.long;
   pieces = λ p q is_p is_q. IsPermutation-trans (between p q s.column) (between p q u.column) (between p q v.column) (a.pieces p q is_p is_q) (b.pieces p q (cuts_kept First s u a p is_p) (cuts_kept First s u a q is_q));
   kept = λ m is. b.kept m (a.kept m is);
-  with_mark = λ n is. elim (new_is n is) [
+  added = λ n is. elim (new_is n is) [
     | inl new ↦
         let at = HasBound-contains u.marks n (a.added n new) in
         rw at.2 at (HasBound-mark v.marks at.0 (b.kept at.0 at.1))

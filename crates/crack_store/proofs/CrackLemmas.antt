@@ -342,7 +342,7 @@ Refines-one s u r bound refined missing end others = record {
   long = refined.long;
   pieces = refined.pieces;
   kept = refined.kept;
-  with_mark = λ b inner. elim (cases_eq b bound) [
+  added = λ b inner. elim (cases_eq b bound) [
     | inl e ↦ refined.added b (e, inner.1, inner.2)
     | inr ne ↦
         let at = HasBound-contains s.marks b (others b inner ne) in
