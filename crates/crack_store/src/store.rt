@@ -116,7 +116,8 @@ impl Store {
         ensures same { self.new ≡ self.old }
         ensures err { IfErr result (λ e. e ≡ Refusal.OutOfMemory) }
     {
-        let rows = rows.min(MOST_CELLS as usize);
+        let most = (MOST_CELLS as usize).saturating_sub(self.inside.arena.cells());
+        let rows = rows.min(most);
         self.inside.pending_in.reserve(rows)?;
         self.inside.arena.reserve(rows)?;
         self.inside.serials.reserve_many(first, rows)?;
