@@ -88,7 +88,7 @@ impl Core {
     }
 
     /// Inserts a row for each key and payload, in order, as `insert` does, and writes its row number: partition and
-    /// serial. Stops at the first refusal. Each costs what `insert` does.
+    /// serial. Stops at the first refusal. Each costs what `insert` does, but room for many is made once.
     pub fn insert_many(
         &mut self,
         keys: &[KeyNumber],
@@ -104,6 +104,24 @@ impl Core {
         ensures opened { (self.new.splits ≡ self.old.splits) × (self.new.limits ≡ self.old.limits) }
     {
         self.make_room_for(keys.len());
+        self.insert_each(keys, payloads, parts, serials)
+    }
+
+    /// Inserts rows, as `insert_many` does.
+    fn insert_each(
+        &mut self,
+        keys: &[KeyNumber],
+        payloads: &[PayloadNumber],
+        parts: &mut [u32],
+        serials: &mut [u64],
+    ) -> Progress
+        requires payloads { length payloads.now ≡ length keys.now }
+        requires parts { length parts.old ≡ length keys.now }
+        requires serials { length serials.old ≡ length keys.now }
+        ensures inserts { Went (InsertsAt self.old.limits self.old.splits keys.now payloads.now parts.new serials.new)
+            (length keys.now) self.old.parts result self.new.parts }
+        ensures opened { (self.new.splits ≡ self.old.splits) × (self.new.limits ≡ self.old.limits) }
+    {
         'rows: for i in 0..keys.len() {
             let key = Key::from_number(keys[i]);
             let payload = payloads[i];

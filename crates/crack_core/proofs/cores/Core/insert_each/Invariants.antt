@@ -1,6 +1,6 @@
 use Rattle.std.specs.Prelude.{◌≡◌}
 use Rattle.crack_core.specs.Bulk.{Answered, InsertsAt}
-use Rattle.crack_core.proofs.cores.Core.insert_many.Given as goal
+use Rattle.crack_core.proofs.cores.Core.insert_each.Given as goal
 
 abbrev pub invariant-rows : goal.invariant-rows
 invariant-rows l = record {

@@ -3,7 +3,7 @@ use Rattle.std.specs.Prelude.{◌≡◌, ◌<◌, pos, length, slice_index_or}
 use Rattle.std.proofs.lemmas.Int.{ints, to_z-of_z}
 use Rattle.crack_core.specs.Bulk.{none}
 use Rattle.crack_core.proofs.BulkLaws.{went-whole, inserts-more, inserts-stop}
-use Rattle.crack_core.proofs.cores.Core.insert_many.Goals as goal
+use Rattle.crack_core.proofs.cores.Core.insert_each.Goals as goal
 
 pub rows-init : goal.rows-init
 rows-init c = record { so_far = none; opened = (refl, refl) }
