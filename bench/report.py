@@ -311,7 +311,7 @@ def rival_text(measured):
     return f"""- **Inserts: {load.ratio():.1f} times as long.** `crackd` gives each row a permanent number, and keeps a map from these numbers to cells; the column has neither. A pending row
   takes {measured.memory["pending"]:.0f} bytes of `crackd`'s memory, and {FAST_BYTES} of the column's lists. The system supplies memory page by page when it is first written.
 - **A first count of everything: {everything.ratio():.1f} times as long.** `crackd` reads each row through its handle, whose generation shows that the cell is still the row's own. A
-  separate step then writes what the column needs of the row, and its generation. The other column reads each row by its slot alone.
+  separate step then writes the row's key, handle and payload into the column. The other column reads each row by its slot alone.
 - **Counts and sums with nothing pending: {spread(queries)} times as long.** Both crack by the same loop, which moves 24 bytes a row in `crackd`, and 20 in the column.
   The column stores payloads beside keys, so a sum reads 16 bytes a row; `crackd` stores payloads separately, and reads 8. `crackd` also clips each query to the
   partition's keys.
