@@ -1,9 +1,9 @@
 .PHONY: help run try program-unproved lib lib-unproved test edits trust
 
-# the minutes that these took on 4 processors, each after the one before it; the edits beside other work
+# the minutes that these took on 4 processors, each after the one before it; the edits in two parts
 RUN_MINUTES = 47
 TEST_MINUTES = 28
-EDITS_MINUTES = 35
+EDITS_MINUTES = 107
 
 # lists the targets
 help:

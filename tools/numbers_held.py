@@ -60,7 +60,7 @@ LIMITS = [
     ("python/crackd/local.py", "HISTORY", ["a partition ({} by default)"]),
     ("Makefile", "RUN_MINUTES", ["and answers: {} minutes the first time", "`make run` took {} minutes from nothing"]),
     ("Makefile", "TEST_MINUTES", ["and runs all tests: {} minutes", "from nothing, `make test` {} after"]),
-    ("Makefile", "EDITS_MINUTES", ["`make edits` {} beside other work"]),
+    ("Makefile", "EDITS_MINUTES", ["`make edits` {} after that", "which the prover must refuse: {} minutes"]),
 ]
 
 # the tables of docs/BENCHMARKS.md, by the first cells of their heads
