@@ -1,6 +1,7 @@
 mod NextLemmas
 mod EdgeLemmas
 mod AdmitLemmas
+mod RunLemmas
 mod CoarsenLemmas
 mod CrackLemmas
 mod FurtherLemmas

@@ -21,6 +21,7 @@ pub mod onward;
 pub mod points;
 pub mod ranges;
 pub mod reads;
+pub mod runs;
 mod search;
 pub mod sifting;
 mod steps;
