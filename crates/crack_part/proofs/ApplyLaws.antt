@@ -16,7 +16,8 @@ use Rattle.crack_part.specs.Cells.{lacks_cell, may_clear, is_cleared_first}
 use Rattle.crack_part.specs.Parts.{Part, state_of, table_of, CracksAndMerges, StopsAt, Serves, ServesCleared, Spares, SparesCleared}
 use Rattle.crack_part.specs.Refusals.{refusal_of}
 use Rattle.crack_part.specs.Upkeep.{answered}
-use Rattle.crack_part.specs.Inside.{early_refusal_of, Frees, FreesNone, AppliesBy, Applies}
+use Rattle.crack_part.specs.Inside.{early_refusal_of, Frees, FreesNone}
+use Rattle.crack_part.specs.Outcomes.{AppliesBy, Applies}
 use Rattle.crack_part.proofs.KeepLemmas.{Keeps-stopped, Keeps-readied}
 use Rattle.crack_part.proofs.OrderLemmas.{table_of-kept}
 use Rattle.crack_part.proofs.RefusalLaws.{refused-late-none, refused-late-cell}

@@ -17,3 +17,4 @@ pub mod PartLaws
 pub mod CopyLaws
 pub mod SumLaws
 pub mod KnownLemmas
+pub mod RunLaws

@@ -1,5 +1,5 @@
 -- A partition's invariant, and what follows from it.
-use Rattle.std.proofs.Common.{◌≡◌, ℕ, ◌+◌, ◌-◌, ◌^◌, ◌<◌, ◌≤◌, List, [], ◌∷◌, ◌++◌, length, Bool, true, false, Option, Some, None, IfSome, option_and_then, arith, inl, inr, refl, sym, ap, subst, ◌∙◌}
+use Rattle.std.proofs.Common.{◌≡◌, ℕ, ◌+◌, ◌^◌, ◌<◌, ◌≤◌, List, [], ◌∷◌, ◌++◌, length, Bool, true, false, Option, Some, None, IfSome, option_and_then, arith, inl, inr, refl, sym, ap, subst, ◌∙◌}
 use Rattle.std.specs.List.{All}
 use Rattle.std.specs.List.Sorted.{IsPermutation}
 use Rattle.std.proofs.lemmas.Bool.{cases_eq}
@@ -48,7 +48,7 @@ pub few_rows : (p : Part) → IsSound p → length (state_of p).rows < 2 ^ 32
 few_rows p sound = omega (arith, rows-le-cells p.store (state_of p).rows (IsPermutation-by_serial (live_rows p.store)), sound.cells, sound.limited.cells.1)
 
 -- the next serial is above those of all live rows
-next-above : (p : Part) → IsSound p → All (λ (r : Row). r.serial.0 < p.next) (live_rows p.store)
+pub next-above : (p : Part) → IsSound p → All (λ (r : Row). r.serial.0 < p.next) (live_rows p.store)
 next-above p sound =
     let live = live_rows p.store in
     All-permutation (λ (r : Row). r.serial.0 < p.next) (state_of p).rows live (IsPermutation-sym live (state_of p).rows (IsPermutation-by_serial live)) sound.numbered.below
@@ -62,7 +62,7 @@ few_freed : (p : Part) → IsSound p → p.folded + p.since < p.limits.life → 
 few_freed p sound lives = omega (arith, sound.few_freed, sound.limited.life.1, lives)
 
 -- a row that is placed may be admitted
-IsAdmissible-placed : (p : Part) (key : Key) (payload : Payload) → IsSound p → IsIn p.keys key.0 → IsAdmissible (inserted_row p.next key payload) p.store
+pub IsAdmissible-placed : (p : Part) (key : Key) (payload : Payload) → IsSound p → IsIn p.keys key.0 → IsAdmissible (inserted_row p.next key payload) p.store
 IsAdmissible-placed p key payload sound within = record {
   fresh = handle_of-fresh p.store [] p.next sound.intact (next-above p sound);
   within = rw sound.ends within;

@@ -1,5 +1,5 @@
 -- What private clauses alone cite.
-use Rattle.std.specs.Prelude.{◌≡◌, ◌⊎◌, ℕ, ◌<◌, ◌≤◌, Bool, true, false, Option, Some, None, Result, Err, IfOk, IfErr, IfSome, OnOk, OnErr}
+use Rattle.std.specs.Prelude.{◌≡◌, ◌⊎◌, ℕ, ◌<◌, ◌≤◌, Bool, true, false, Option, Some, None}
 use Rattle.crack_row.specs.Commands.{change_of}
 use Rattle.crack_row.specs.Ranges.{Range, IsIn, clipped}
 use Rattle.crack_row.specs.Rows.{row_with}
@@ -9,19 +9,15 @@ use Rattle.crack_row.specs.declared.Row.{Row}
 use Rattle.crack_row.specs.declared.command.Change.{Change}
 use Rattle.crack_row.specs.declared.command.Change.TheVariants.{Place, Remove, Rewrite}
 use Rattle.crack_row.specs.declared.command.Command.{Command}
-use Rattle.crack_row.specs.declared.command.Policy.{Policy}
 use Rattle.crack_row.specs.declared.command.Policy.TheVariants.{Complete}
-use Rattle.crack_row.specs.declared.command.Reply.{Reply}
 use Rattle.crack_row.specs.declared.refusal.Refusal.{Refusal}
 use Rattle.crack_row.specs.declared.refusal.Refusal.TheVariants.{OutOfMemory, NoCell}
-use Rattle.crack_plain.specs.Plain.{IsSmall, reply_to, after}
 use Rattle.crack_state.specs.State.{State}
 use Rattle.crack_state.specs.Steps.{IsAdmissible}
 use Rattle.crack_state.specs.Points.{MayFree, IsRenewable}
-use Rattle.crack_part.specs.Parts.{Part, state_of, table_of, StopsAt, CracksAndMerges, Serves, Spares}
+use Rattle.crack_part.specs.Parts.{Part, table_of, StopsAt, CracksAndMerges}
 use Rattle.crack_part.specs.Cells.{lacks_cell, is_without_cell, is_cleared_first}
-use Rattle.crack_part.specs.Refusals.{stopped_by, first_cause, refusal_of}
-use Rattle.crack_part.specs.Upkeep.{answered}
+use Rattle.crack_part.specs.Refusals.{stopped_by, first_cause}
 
 -- the row that a change inserts
 abbrev pub inserted_row : ℕ → Key → Payload → Row
@@ -59,21 +55,3 @@ Frees p command q = (lacks_cell q.limits.cells q.store (change_of command) ≡ f
 -- no cell is freed: either upkeep frees none, or no memory is found for it
 abbrev pub FreesNone : Part → Command → Refusal → Part → Type 0
 FreesNone p command e q = ((e ≡ NoCell) × (is_without_cell p.limits p.store (change_of command) ≡ true) × (q ≡ p)) ⊎ ((e ≡ OutOfMemory) × (is_cleared_first p.limits p.store (change_of command) ≡ true) × StopsAt Complete p.store q.store p.store.keys)
-
--- the outcome of a command at a partition that refuses it for this cause, if any: the reply of the plain rows, and
--- one more command; or a refusal, which leaves the plain table unchanged; the store changes by `Served` or `Spared`
-pub record AppliesBy (command : Command) (cause : Option Refusal) (Served Spared : State → Type 0) (old : Part) (result : Result Reply Refusal) (new : Part) : Type 0 where
-  pub reply : IfOk result (λ reply. reply ≡ reply_to (state_of old) command)
-  pub small : IfOk result IsSmall
-  pub table : OnOk result (table_of new ≡ answered old.limits (table_of old) command)
-  pub state : OnOk result (state_of new ≡ after (state_of old) command)
-  pub store : OnOk result (Served new.store)
-  pub opened : (new.keys ≡ old.keys) × (new.limits ≡ old.limits)
-  pub err : OnErr result (table_of new ≡ table_of old)
-  pub spared : OnErr result (Spared new.store)
-  pub refused : IfSome cause (λ e. (result ≡ Err e) × (new ≡ old))
-  pub memory : cause ≡ None → IfErr result (λ e. e ≡ OutOfMemory)
-
--- the outcome of a command at a partition
-abbrev pub Applies : Policy → Command → Part → Result Reply Refusal → Part → Type 0
-Applies policy command old result new = AppliesBy command (refusal_of old command) (Serves policy old command) (Spares policy old command) old result new

@@ -8,6 +8,7 @@ pub mod partition;
 mod passes;
 mod reads;
 mod replies;
+pub mod runs;
 mod settling;
 pub mod totals;
 

@@ -18,7 +18,8 @@ ghost use Rattle.crack_part.specs.Refusals.{is_key_in, refusal_of};
 ghost use Rattle.crack_part.specs.KnownSums.{KnowsSums, KnowsThen};
 ghost use Rattle.crack_part.specs.Cells.{takes_cell, lacks_cell, may_clear};
 ghost use Rattle.crack_part.specs.Upkeep.{is_automatic, is_full, is_due, answered};
-ghost use Rattle.crack_part.specs.Inside.{AreCommon, MayPerform, early_refusal_of, Frees, FreesNone, Applies};
+ghost use Rattle.crack_part.specs.Inside.{AreCommon, MayPerform, early_refusal_of, Frees, FreesNone};
+ghost use Rattle.crack_part.specs.Outcomes.{Applies};
 
 use crate::changes::{place, remove, rewrite};
 use crate::known::KnownSums;
@@ -201,15 +202,6 @@ impl Partition {
         ensures { result ≡ is_due self.now.limits self.now.since }
     {
         self.is_at_limit() && is_automatic(self.limits.upkeep)
-    }
-
-    /// Makes room for the next `rows` insertions, at most for as many as there may be cells, if memory for them is
-    /// found. Changes nothing else. O(1), except for growth.
-    pub fn make_room_for(&mut self, rows: usize)
-        ensures { self.new ≡ self.old }
-    {
-        let most = self.limits.cells as usize;
-        let _ = self.store.make_room_for(Serial(self.next), rows.min(most));
     }
 
     /// Answers one command, and counts it.

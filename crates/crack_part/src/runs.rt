@@ -1,0 +1,72 @@
+//! Runs of rows that are inserted by one call.
+ghost use Rattle.std.specs.Prelude.{◌≡◌, ◌+◌, ◌<◌, ◌≤◌, ◌^◌, slice_index_or, length, ℕ, Err, IfOk, IfErr};
+ghost use Rattle.crack_row.specs.Ranges.{IsIn};
+ghost use Rattle.crack_plain.specs.Plain.{accepted_of};
+ghost use Rattle.crack_part.specs.Parts.{IsSound, table_of};
+ghost use Rattle.crack_part.specs.Runs.{InsertsAt, InsertsRun};
+
+use crate::partition::Partition;
+use crack_row::{Key, KeyNumber, KeyRange, PayloadNumber, Refusal, Serial};
+
+impl Partition {
+    /// Inserts rows, the first ones of these lists of keys and payloads, each as `apply` inserts it, and returns how
+    /// many. Takes as many as need no upkeep and aren't refused: up to the first key that isn't the partition's, and
+    /// up to the limits of the commands since the last checkpoint, of the life and of the cells; fewer only if no
+    /// memory is found for the next row. Refused with `OutOfMemory` if no memory is found for the first one. O(rows
+    /// inserted), except for growth.
+    pub fn insert_run(
+        &mut self,
+        keys: &[KeyNumber],
+        payloads: &[PayloadNumber],
+    ) -> Result<usize, Refusal>
+        requires { length payloads.now ≡ length keys.now }
+        ensures few { IfOk result (λ count. count ≤ length keys.now) }
+        ensures last { IfOk result (λ count. self.old.next + count < 2 ^ 64) }
+        ensures inserts { IfOk result (λ count. InsertsRun keys.now payloads.now self.old count self.new) }
+        ensures refused { IfErr result (λ e. InsertsAt keys.now payloads.now 0 (Err e) self.old self.new) }
+    {
+        let left = self.inserts_left();
+        let count = keys_within(self.keys, keys, left);
+        if count == 0 {
+            return Ok(0);
+        }
+        let taken = self
+            .store
+            .admit_run(Serial(self.next), &keys[..count], &payloads[..count]);
+        self.store.facts();
+        if taken == 0 {
+            return Err(Refusal::OutOfMemory);
+        }
+        self.next += taken as u64;
+        self.since += taken as u64;
+        Ok(taken)
+    }
+
+    /// How many rows may be inserted next without upkeep, and without a refusal for another cause than their keys or
+    /// lack of memory. O(1).
+    fn inserts_left(&self) -> usize
+        ensures history { self.now.since + result ≤ self.now.limits.history }
+        ensures life { accepted_of (table_of self.now) + result ≤ self.now.limits.life }
+        ensures cells { length self.now.store.cells + result ≤ self.now.limits.cells + length self.now.store.free }
+    {
+        let cells = self.limits.cells - self.store.cells() as u64 + self.store.free_cells() as u64;
+        let history = self.limits.history - self.since;
+        let life = self.limits.life - self.accepted();
+        cells.min(history).min(life) as usize
+    }
+}
+
+/// How many keys of a list, from the first on, are in a range, up to `most`. O(result).
+fn keys_within(range: KeyRange, keys: &[KeyNumber], most: usize) -> usize
+    ensures few { result ≤ length keys.now }
+    ensures most { result ≤ most }
+    ensures within { (k : ℕ) → k < result → IsIn range (slice_index_or keys.now k 0) }
+{
+    let end = keys.len().min(most);
+    'keys: for i in 0..end {
+        if !range.contains(Key::from_number(keys[i])) {
+            return i;
+        }
+    }
+    end
+}
