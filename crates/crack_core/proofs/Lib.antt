@@ -5,6 +5,7 @@ pub mod JobLaws
 pub mod KeyLaws
 pub mod ListLaws
 pub mod RouteLaws
+pub mod RunLaws
 pub mod ShortLaws
 pub mod StepLaws
 pub mod TurnLaws

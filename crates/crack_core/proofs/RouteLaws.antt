@@ -153,13 +153,13 @@ pub ends-bounded : (splits : List Bound) (part : ℕ) → AreSplits splits → (
 ends-bounded splits part are = high-le 0 splits part are.rising
 
 -- a partition before the one in which a number falls ends at or below the number
-high-before : (splits : List Bound) (n part : ℕ) → AreSplits splits → part < route splits n → (keys_of_part splits part).high ≤ n
+pub high-before : (splits : List Bound) (n part : ℕ) → AreSplits splits → part < route splits n → (keys_of_part splits part).high ≤ n
 high-before splits n part are before =
     let within = route-le splits n in
     low-le n 0 splits (suc part) GREATEST_BOUND are.rising (omega arith) (omega (arith, before))
 
 -- a partition after the one in which a number falls begins above the number
-low-behind : (splits : List Bound) (n part : ℕ) → AreSplits splits → n < GREATEST_BOUND → route splits n < part → part ≤ length splits → n < (keys_of_part splits part).low
+pub low-behind : (splits : List Bound) (n part : ℕ) → AreSplits splits → n < GREATEST_BOUND → route splits n < part → part ≤ length splits → n < (keys_of_part splits part).low
 low-behind splits n zero are below behind within = absurd (omega (arith, behind))
 low-behind splits n (suc part) are below behind within =
     let above = high-gt n 0 splits part are.rising below (omega (arith, behind)) in

@@ -1,10 +1,12 @@
 //! Many calls in one, with lists of the caller.
-ghost use Rattle.std.specs.Prelude.{◌≡◌, ◌<◌, ◌≤◌, ◌≤ℤ◌, ◌^◌, neg_ℤ, pos, length, IfOk};
-ghost use Rattle.crack_core.specs.Asking.{CountsRange, Sums};
+ghost use Rattle.std.specs.Prelude.{◌≡◌, ◌<◌, ◌≤◌, ◌≤ℤ◌, ◌^◌, neg_ℤ, pos, ℕ, ◌+◌, length, slice_index_or, IfOk, IfErr, Ok, Err};
+ghost use Rattle.crack_core.specs.Asking.{Inserts, CountsRange, Sums};
 ghost use Rattle.crack_core.specs.Bulk.{Went, InsertsAt, DeletesAt, UpdatesAt, CountsAt, SumsAt, OverKeys};
-ghost use Rattle.crack_core.specs.Bulk.{of_halves, flag};
+ghost use Rattle.crack_core.specs.Bulk.{Answered, of_halves, flag, key_in, payload_in, row_number};
+ghost use Rattle.crack_core.specs.Inside.{IsKeptBelow};
 
 use crate::Core;
+use crate::runs::Run;
 use crack_row::{
     BoundNumber, Key, KeyNumber, KeyRange, Payload, PayloadNumber, Policy, Refusal, RowNo, Serial,
 };
@@ -88,7 +90,8 @@ impl Core {
     }
 
     /// Inserts a row for each key and payload, in order, as `insert` does, and writes its row number: partition and
-    /// serial. Stops at the first refusal. Each costs what `insert` does, but room for many is made once.
+    /// serial. Stops at the first refusal. Rows that go into one partition one after the other are inserted by one
+    /// call, which costs less for each than `insert`.
     pub fn insert_many(
         &mut self,
         keys: &[KeyNumber],
@@ -103,37 +106,83 @@ impl Core {
             (length keys.now) self.old.parts result self.new.parts }
         ensures opened { (self.new.splits ≡ self.old.splits) × (self.new.limits ≡ self.old.limits) }
     {
-        self.make_room_for(keys.len());
-        self.insert_each(keys, payloads, parts, serials)
+        // A run takes all the keys that it looks at but the one that ends it, so none is looked at more than twice. If
+        // memory cuts a run short, the next one begins with the row that found none, and a second refusal ends the
+        // list.
+        let mut done = 0;
+        'runs: while done < keys.len() {
+            match self.insert_next(keys, payloads, parts, serials, done) {
+                Ok(count) => done += count,
+                Err(refusal) => return Progress::stopped(done, refusal),
+            }
+        }
+        Progress::whole(keys.len())
     }
 
-    /// Inserts rows, as `insert_many` does.
-    fn insert_each(
+    /// Inserts rows from this index on, as many as a run takes, or one if a run takes none, and writes their row
+    /// numbers. Returns how many.
+    fn insert_next(
         &mut self,
         keys: &[KeyNumber],
         payloads: &[PayloadNumber],
         parts: &mut [u32],
         serials: &mut [u64],
-    ) -> Progress
+        from: usize,
+    ) -> Result<usize, Refusal>
+        requires within { from < length keys.now }
         requires payloads { length payloads.now ≡ length keys.now }
         requires parts { length parts.old ≡ length keys.now }
         requires serials { length serials.old ≡ length keys.now }
-        ensures inserts { Went (InsertsAt self.old.limits self.old.splits keys.now payloads.now parts.new serials.new)
-            (length keys.now) self.old.parts result self.new.parts }
+        ensures some { IfOk result (λ count. (0 < count) × (from + count ≤ length keys.now)) }
+        ensures inserts { IfOk result (λ count. Answered (λ k. InsertsAt self.old.limits self.old.splits keys.now
+            payloads.now parts.new serials.new (from + k)) self.old.parts count self.new.parts) }
+        ensures refused { IfErr result (λ e. Inserts self.old.limits self.old.splits (key_in keys.now from)
+            (payload_in payloads.now from) (Err e) self.old.parts self.new.parts) }
+        ensures parts { IsKeptBelow from parts.old parts.new }
+        ensures serials { IsKeptBelow from serials.old serials.new }
         ensures opened { (self.new.splits ≡ self.old.splits) × (self.new.limits ≡ self.old.limits) }
     {
-        'rows: for i in 0..keys.len() {
-            let key = Key::from_number(keys[i]);
-            let payload = payloads[i];
-            match self.insert(key, Payload::from_number(payload)) {
-                Ok(row) => {
-                    parts[i] = row.part;
-                    serials[i] = row.serial.0;
+        match self.insert_run(&keys[from..], &payloads[from..]) {
+            Ok(run) => {
+                if run.count == 0 {
+                    return self.insert_one(keys[from], payloads[from], parts, serials, from);
                 }
-                Err(refusal) => return Progress::stopped(i, refusal),
+                number_rows(parts, serials, from, run);
+                Ok(run.count)
             }
+            Err(refusal) => Err(refusal),
         }
-        Progress::whole(keys.len())
+    }
+
+    /// Inserts one row, as `insert` does, and writes its row number at this index. Returns 1.
+    fn insert_one(
+        &mut self,
+        key: KeyNumber,
+        payload: PayloadNumber,
+        parts: &mut [u32],
+        serials: &mut [u64],
+        i: usize,
+    ) -> Result<usize, Refusal>
+        requires parts { i < length parts.old }
+        requires serials { i < length serials.old }
+        ensures one { IfOk result (λ count. count ≡ 1) }
+        ensures inserts { IfOk result (λ _. Inserts self.old.limits self.old.splits (record { 0 = key })
+            (record { 0 = payload }) (Ok (row_number (slice_index_or parts.new i 0) (slice_index_or serials.new i 0)))
+            self.old.parts self.new.parts) }
+        ensures refused { IfErr result (λ e. Inserts self.old.limits self.old.splits (record { 0 = key })
+            (record { 0 = payload }) (Err e) self.old.parts self.new.parts) }
+        ensures parts { IsKeptBelow i parts.old parts.new }
+        ensures serials { IsKeptBelow i serials.old serials.new }
+        ensures opened { (self.new.splits ≡ self.old.splits) × (self.new.limits ≡ self.old.limits) }
+    {
+        match self.insert(Key::from_number(key), Payload::from_number(payload)) {
+            Ok(row) => {
+                parts[i] = row.part;
+                serials[i] = row.serial.0;
+                Ok(1)
+            }
+            Err(refusal) => Err(refusal),
+        }
     }
 
     /// Deletes rows, in order, as `delete` does, and writes 1 for each that existed and 0 for each that didn't.
@@ -251,6 +300,22 @@ pub fn halves(sum: i128) -> (u64, i64)
     let low = (lifted % HIGH_UNIT) as u64;
     let high = (lifted / HIGH_UNIT) as i64;
     (low, high - FARTHEST_HIGH)
+}
+
+/// Writes the row numbers of a run, from this index on. O(rows).
+fn number_rows(parts: &mut [u32], serials: &mut [u64], from: usize, run: Run)
+    requires parts { from + run.count ≤ length parts.old }
+    requires serials { from + run.count ≤ length serials.old }
+    requires last { run.first + run.count < 2 ^ 64 }
+    ensures kept_parts { IsKeptBelow from parts.old parts.new }
+    ensures kept_serials { IsKeptBelow from serials.old serials.new }
+    ensures parts { (k : ℕ) → k < run.count → slice_index_or parts.new (from + k) 0 ≡ run.part }
+    ensures serials { (k : ℕ) → k < run.count → slice_index_or serials.new (from + k) 0 ≡ run.first + k }
+{
+    'rows: for k in 0..run.count {
+        parts[from + k] = run.part;
+        serials[from + k] = run.first + k as u64;
+    }
 }
 
 /// The row number of a partition and a serial.

@@ -26,9 +26,6 @@ use smallvec::SmallVec;
 use std::alloc::Global;
 use std::marker::Model;
 
-/// From this many rows on, one call to make room costs less than growth in steps.
-const MANY_ROWS: usize = 256;
-
 /// Partitions by key range, asked by one thread. Contracts see the splits, the limits of each partition, and the
 /// partitions.
 ///
@@ -51,7 +48,7 @@ const MANY_ROWS: usize = 256;
 pub struct Core {
     splits: Vec<Bound>,
     limits: Limits,
-    partitions: Vec<Partition>,
+    pub(crate) partitions: Vec<Partition>,
 }
 
 impl Model for Core {
@@ -144,16 +141,6 @@ impl Core {
         ensures err { IfErr result (λ e. e ≡ Refusal.OutOfMemory) }
     {
         routes::parts_of(*self.splits.allocator(), &self.splits, range)
-    }
-
-    /// Makes room for `rows` insertions if they are many, there is only one partition, and memory for them is found.
-    /// Changes nothing else. O(1), except for growth.
-    pub(crate) fn make_room_for(&mut self, rows: usize)
-        ensures { self.new ≡ self.old }
-    {
-        if rows >= MANY_ROWS && self.partitions.len() == 1 {
-            self.partitions[0].make_room_for(rows);
-        }
     }
 
     /// The layout of one partition. Cracks and merges nothing, and isn't counted as a command. Refused with

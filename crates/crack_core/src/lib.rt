@@ -7,6 +7,7 @@ pub mod cores;
 pub mod listing;
 pub mod opening;
 pub mod routes;
+mod runs;
 pub mod step;
 pub mod turns;
 pub mod upkeep;
