@@ -9,10 +9,14 @@ use crate::Store;
 use crate::admitting::{add_rows, make_room_for_run, row_at_index};
 use crack_row::{KeyNumber, PayloadNumber, Serial};
 
+/// From this many rows on, room for all at once costs less than for one after the other, since it is made in each map
+/// of serials.
+const MANY_ROWS: usize = 16;
+
 impl Store {
     /// Adds a row for each key and payload, in order, as `admit` does, with serials from `first` on. Returns how many
-    /// it added: fewer than all only if no memory was found for the next one. Makes room for all of them at once, or
-    /// if no memory is found for that, for one after the other. O(rows), except for growth.
+    /// it added: fewer than all only if no memory was found for the next one. Makes room for many rows at once; for
+    /// few, or if no memory is found for all, for one after the other. O(rows), except for growth.
     pub fn admit_run(
         &mut self,
         first: Serial,
@@ -28,6 +32,9 @@ impl Store {
         ensures live { IsPermutation (take result (run_rows first.0 keys.now payloads.now) ++ live_rows self.old)
             (live_rows self.new) }
     {
+        if keys.len() < MANY_ROWS {
+            return self.admit_each(first, keys, payloads);
+        }
         if make_room_for_run(&mut self.inside, first, keys.len()).is_err() {
             return self.admit_each(first, keys, payloads);
         }
@@ -36,7 +43,6 @@ impl Store {
     }
 
     /// Does what `admit_run` does, but makes room for each row alone.
-    #[cold]
     #[inline(never)]
     fn admit_each(&mut self, first: Serial, keys: &[KeyNumber], payloads: &[PayloadNumber]) -> usize
         requires payloads { length payloads.now ≡ length keys.now }

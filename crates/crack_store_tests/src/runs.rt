@@ -90,7 +90,7 @@ fn noted_by(rt: &impl Abort, alloc: Global, seed: u64, at_once: bool) -> Vec<u64
     delete_some(rt, &mut store, &mut numbers, 1000);
     let mut keys = Vec::new(alloc);
     let mut payloads = Vec::new(alloc);
-    let count = numbers.below(20);
+    let count = numbers.below(40);
     'rows: for i in 0..count {
         assert!(rt; keys.push(numbers.below(60)).is_ok());
         assert!(rt; payloads.push(i as i64).is_ok());
@@ -129,14 +129,26 @@ fn an_empty_run_adds_nothing(rt: HostRuntime) {
     drop(store);
 }
 
+/// A run of many rows, for which room is made at once.
+const KEYS: [KeyNumber; 20] = [
+    30, 10, 20, 40, 60, 50, 20, 10, 90, 80, 70, 35, 15, 25, 45, 65, 55, 5, 0, 100,
+];
+
+const PAYLOADS: [PayloadNumber; 20] = [
+    3, -1, 2, 4, 6, 5, 2, 1, 9, 8, 7, -3, -2, 0, 11, 12, 13, 14, 15, 16,
+];
+
 // If no memory is found for all rows at once, it is for one after the other.
 #[test]
 fn sweep_a_run_of_rows(rt: HostRuntime) {
+    let (keys, payloads) = (KEYS, PAYLOADS);
     let mut store = Store::new(rt.alloc(), KeyRange::all());
-    let added = admit_run(&rt, &mut store, 7, &[30, 10, 20], &[3, -1, 2]);
-    assert!(rt; added == 3 && store.pending_in() == 3);
-    assert!(rt; store.row_of(Serial(7)) == Some(row((7, 30, 3))));
-    assert!(rt; store.row_of(Serial(8)) == Some(row((8, 10, -1))));
-    assert!(rt; store.row_of(Serial(9)) == Some(row((9, 20, 2))));
+    let added = admit_run(&rt, &mut store, 7, &keys, &payloads);
+    assert!(rt; added == 20 && store.pending_in() == 20);
+    'rows: for i in 0..20 {
+        let serial = 7 + i as u64;
+        let wanted = row((serial, keys[i], payloads[i]));
+        assert!(rt; store.row_of(Serial(serial)) == Some(wanted));
+    }
     drop(store);
 }
