@@ -1,7 +1,7 @@
 -- The cell of a row that is admitted.
-use Rattle.std.proofs.Common.{◌≡◌, ℕ, ◌+◌, ◌<◌, ◌≤◌, List, [], ◌∷◌, length, Some, refl, sym, ◌∙◌, inl, inr, arith, length-set}
+use Rattle.std.proofs.Common.{◌≡◌, ℕ, zero, suc, ◌+◌, ◌-◌, ◌<◌, ◌≤◌, List, [], ◌∷◌, length, drop, Some, refl, ◌∙◌, inl, inr, arith, length-set}
 use Rattle.std.specs.Prelude.{nat_eq}
-use Rattle.std.proofs.lemmas.Bool.{cases_lt, le-ltb, ne_eqb}
+use Rattle.std.proofs.lemmas.Bool.{cases_lt, le-ltb}
 use Rattle.std.proofs.lemmas.List.{length_push}
 use mir.Val.{bool_byte}
 use Rattle.crack_row.specs.declared.Row.{Row}
@@ -12,10 +12,9 @@ use Rattle.crack_state.specs.Steps.{next_handle}
 use Rattle.crack_state.proofs.OwnedLaws.{places_of, times-places}
 
 -- there is one more cell if none was free
-length_cells_with : (row : Row) (cells : List (Cell Row)) (free : List ℕ) → length cells + bool_byte (nat_eq (length free) 0) ≡ length (cells_with row cells free)
-length_cells_with row cells [] = sym (length_push cells (record { generation = 0; value = Some row }))
-length_cells_with row cells (n ∷ ns) =
-    rw (ne_eqb (length (n ∷ ns)) 0 (λ e. omega arith)) (omega (arith, length-set cells n (record { generation = (cell_at cells n).generation; value = Some row })))
+length_cells_with : (row : Row) (cells : List (Cell Row)) (free : List ℕ) → length (cells_with row cells free) ≡ length cells + (1 - length free)
+length_cells_with row cells [] = length_push cells (record { generation = 0; value = Some row })
+length_cells_with row cells (n ∷ ns) = omega (arith, length-set cells n (record { generation = (cell_at cells n).generation; value = Some row }))
 
 -- the number of the row's cell is that of one of the cells then
 next_within : (row : Row) (s : State) (free : List ℕ) → s.free ≡ free → IsIntact s [] → (handle_for s.cells free).slot < length (cells_with row s.cells free)
@@ -29,11 +28,21 @@ next_within row s (n ∷ ns) is intact = elim (cases_lt n (length s.cells)) [
 ]
 
 -- if as many cells are covered as there will be, each is
-pub all_covered : (row : Row) (s : State) (cells free covered : ℕ) → cells ≡ length s.cells → free ≡ length s.free → cells + bool_byte (nat_eq free 0) ≤ covered → length (cells_with row s.cells s.free) ≤ covered
-all_covered row s cells free covered cells_is free_is enough = omega (arith, rw (← free_is) at (length_cells_with row s.cells s.free))
+pub all_covered : (row : Row) (s : State) (covered : ℕ) → length s.cells + (1 - length s.free) ≤ covered → length (cells_with row s.cells s.free) ≤ covered
+all_covered row s covered enough = omega (arith, length_cells_with row s.cells s.free)
+
+-- as many cells are covered if a test says whether there will be one more
+pub with_new_cell : (s : State) (cells free covered : ℕ) → cells ≡ length s.cells → free ≡ length s.free → cells + bool_byte (nat_eq free 0) ≤ covered → length s.cells + (1 - length s.free) ≤ covered
+with_new_cell s cells zero covered cells_is free_is enough = omega (arith, cells_is, free_is, enough)
+with_new_cell s cells (suc free) covered cells_is free_is enough = omega (arith, cells_is, free_is, enough)
 
 -- and so is the row's
-pub is_covered : (row : Row) (s : State) (h : Handle) (cells free covered : ℕ) → h ≡ next_handle s → cells ≡ length s.cells → free ≡ length s.free → cells + bool_byte (nat_eq free 0) ≤ covered → IsIntact s [] → h.slot < covered
-is_covered row s h cells free covered is cells_is free_is enough intact =
+pub is_covered : (row : Row) (s : State) (h : Handle) (covered : ℕ) → h ≡ next_handle s → length s.cells + (1 - length s.free) ≤ covered → IsIntact s [] → h.slot < covered
+is_covered row s h covered is enough intact =
     let within : h.slot < length (cells_with row s.cells s.free) = rw is (next_within row s s.free refl intact) in
-    omega (arith, within, all_covered row s cells free covered cells_is free_is enough)
+    omega (arith, within, all_covered row s covered enough)
+
+-- if as many cells are covered as more rows need, they are after one of them
+pub covered-next : (row : Row) (cells : List (Cell Row)) (free : List ℕ) (count covered : ℕ) → length cells + (suc count - length free) ≤ covered → length (cells_with row cells free) + (count - length (drop 1 free)) ≤ covered
+covered-next row cells [] count covered enough = omega (arith, enough, length_cells_with row cells [])
+covered-next row cells (n ∷ ns) count covered enough = omega (arith, enough, length_cells_with row cells (n ∷ ns))

@@ -2,6 +2,7 @@ mod NextLemmas
 mod EdgeLemmas
 mod AdmitLemmas
 mod RunLemmas
+mod RoomLemmas
 mod CoarsenLemmas
 mod CrackLemmas
 mod FurtherLemmas

@@ -5,6 +5,7 @@
 //! see a store as one record of plain lists.
 #![tactic(auto)]
 
+mod admitting;
 pub mod appending;
 mod ascent;
 pub mod carrying;

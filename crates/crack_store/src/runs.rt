@@ -3,20 +3,48 @@ ghost use Rattle.std.specs.Prelude.{◌≡◌, ◌+◌, ◌<◌, ◌≤◌, ◌^
 ghost use Rattle.std.specs.List.Sorted.{IsPermutation};
 ghost use Rattle.crack_state.specs.State.{live_rows};
 ghost use Rattle.crack_state.specs.Steps.{SameButRoom};
-ghost use Rattle.crack_store.specs.Runs.{run_rows, row_in, all_admitted, AreAdmissible};
+ghost use Rattle.crack_store.specs.Runs.{run_rows, all_admitted, AreAdmissible};
 
 use crate::Store;
-use crack_row::{Key, KeyNumber, Payload, PayloadNumber, Row, Serial};
+use crate::admitting::{add_rows, make_room_for_run, row_at_index};
+use crack_row::{KeyNumber, PayloadNumber, Serial};
+
+/// From this many rows on, room for all at once costs less than for one after the other, since it is made in each map
+/// of serials.
+const MANY_ROWS: usize = 16;
 
 impl Store {
     /// Adds a row for each key and payload, in order, as `admit` does, with serials from `first` on. Returns how many
-    /// it added: fewer than all only if no memory was found for the next one. O(rows), except for growth.
+    /// it added: fewer than all only if no memory was found for the next one. Makes room for many rows at once; for
+    /// few, or if no memory is found for all, for one after the other. O(rows), except for growth.
     pub fn admit_run(
         &mut self,
         first: Serial,
         keys: &[KeyNumber],
         payloads: &[PayloadNumber],
     ) -> usize
+        requires payloads { length payloads.now ≡ length keys.now }
+        requires admissible { AreAdmissible first.0 keys.now self.old }
+        requires serials { first.0 + length keys.now < 2 ^ 64 }
+        ensures few { result ≤ length keys.now }
+        ensures after { SameButRoom (all_admitted (take result (run_rows first.0 keys.now payloads.now)) self.old)
+            self.new }
+        ensures live { IsPermutation (take result (run_rows first.0 keys.now payloads.now) ++ live_rows self.old)
+            (live_rows self.new) }
+    {
+        if keys.len() < MANY_ROWS {
+            return self.admit_each(first, keys, payloads);
+        }
+        if make_room_for_run(&mut self.inside, first, keys.len()).is_err() {
+            return self.admit_each(first, keys, payloads);
+        }
+        add_rows(&mut self.inside, first, keys, payloads);
+        keys.len()
+    }
+
+    /// Does what `admit_run` does, but makes room for each row alone.
+    #[inline(never)]
+    fn admit_each(&mut self, first: Serial, keys: &[KeyNumber], payloads: &[PayloadNumber]) -> usize
         requires payloads { length payloads.now ≡ length keys.now }
         requires admissible { AreAdmissible first.0 keys.now self.old }
         requires serials { first.0 + length keys.now < 2 ^ 64 }
@@ -34,22 +62,5 @@ impl Store {
             }
         }
         keys.len()
-    }
-}
-
-/// The row at this index of a run.
-#[inline(always)]
-fn row_at_index(first: Serial, index: usize, keys: &[KeyNumber], payloads: &[PayloadNumber]) -> Row
-    requires within { index < length keys.now }
-    requires payloads { length payloads.now ≡ length keys.now }
-    requires serials { first.0 + length keys.now < 2 ^ 64 }
-    ensures { result ≡ row_in first.0 keys.now payloads.now index }
-{
-    let key = keys[index];
-    let payload = payloads[index];
-    Row {
-        serial: Serial(first.0 + index as u64),
-        key: Key::from_number(key),
-        payload: Payload::from_number(payload),
     }
 }

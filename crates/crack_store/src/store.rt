@@ -15,12 +15,13 @@ ghost use Rattle.crack_store.specs.Inside.{no_cells, IsLayoutOf};
 ghost use Rattle.crack_store.specs.Further.{CracksFurther};
 
 use crate::Carrying;
+use crate::admitting::{add_row, make_room_for_one, make_room_for_run};
 use crate::cracking::{code_pending, crack_at_ends, missing_ends};
 use crate::further::{BOUNDS_BESIDE, crack_further};
 use crate::inside::Inside;
 use crate::notes::Notes;
 use crate::steps::{take_in, take_last};
-use crack_arena::{Arena, Handle, MOST_CELLS, Remembered};
+use crack_arena::{Arena, Handle, MOST_CELLS};
 use crack_column::CrackerColumn;
 use crack_index::CrackerIndex;
 use crack_pending::{PendingIn, PendingOut};
@@ -93,19 +94,8 @@ impl Store {
         ensures same { OnErr result (SameButRoom self.old self.new) }
         ensures err { IfErr result (λ e. e ≡ Refusal.OutOfMemory) }
     {
-        self.inside.pending_in.reserve(1)?;
-        self.inside.arena.reserve(1)?;
-        self.inside.serials.reserve(row.serial)?;
-        let new_cells = (self.inside.arena.free_cells() == 0) as usize;
-        self.inside
-            .pending_in
-            .make_places(self.inside.arena.cells() + new_cells)?;
-        let handle = self.inside.arena.put_reserved(row);
-        let _ = self.inside.serials.insert_reserved(row.serial, handle);
-        self.inside
-            .pending_in
-            .push_remembered(handle, Remembered::of(row));
-        self.inside.in_room = 0;
+        make_room_for_one(&mut self.inside, row.serial)?;
+        add_row(&mut self.inside, row);
         Ok(())
     }
 
@@ -118,13 +108,7 @@ impl Store {
     {
         let most = (MOST_CELLS as usize).saturating_sub(self.inside.arena.cells());
         let rows = rows.min(most);
-        self.inside.pending_in.reserve(rows)?;
-        self.inside.arena.reserve(rows)?;
-        self.inside.serials.reserve_many(first, rows)?;
-        let new_cells = rows.saturating_sub(self.inside.arena.free_cells());
-        self.inside
-            .pending_in
-            .make_places(self.inside.arena.cells() + new_cells)
+        make_room_for_run(&mut self.inside, first, rows)
     }
 
     /// Whether the row with this serial is a pending insertion; `None` if there is no such row. O(1).

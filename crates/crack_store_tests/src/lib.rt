@@ -23,6 +23,8 @@ mod pending;
 #[cfg(test)]
 mod row;
 #[cfg(test)]
+mod runs;
+#[cfg(test)]
 mod script;
 #[cfg(test)]
 mod serials;

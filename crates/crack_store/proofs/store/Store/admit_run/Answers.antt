@@ -1,13 +1,10 @@
-use Rattle.crack_store.proofs.RunLemmas.{IsRun-none, IsRun-may, IsRun-next}
+use Rattle.std.proofs.Common.{[], arith}
+use Rattle.crack_state.proofs.LayoutLaws.{cells-intact}
+use Rattle.crack_store.specs.Inside.{lists_of}
+use Rattle.crack_store.specs.Runs.{AreAdmissible}
 use Rattle.crack_store.proofs.store.Store.admit_run.Goals as goal
 
-pub rows-init : goal.rows-init
-rows-init c = IsRun-none c.args.first.0 c.args.keys.now c.args.payloads.now c.args.self.now c.requires.admissible
-
-pub admit-requires : goal.admit-requires
-admit-requires c = rw (c.row_at_index-row.ensures) (IsRun-may c.args.first.0 c.args.keys.now c.args.payloads.now c.args.self.now c.rows.i c.rows.self c.rows.invariant c.rows-test.true)
-
-pub rows-preserved : goal.rows-preserved
-rows-preserved c =
-    let is = c.row_at_index-row.ensures in
-    IsRun-next c.args.first.0 c.args.keys.now c.args.payloads.now c.args.self.now c.rows.i c.rows.self c.admit.new.self c.requires.payloads c.rows-test.true c.rows.invariant (rw is at c.in-Ok.ensures.ok) (rw is at c.in-Ok.ensures.live)
+pub make_room_for_run-requires-clause-few : goal.make_room_for_run-requires-clause-few
+make_room_for_run-requires-clause-few c =
+    let may : AreAdmissible c.args.first.0 c.args.keys.now (lists_of c.self.inside.inside) = rw (← c.self.view_is) at c.requires.admissible in
+    omega (arith, may.cells, cells-intact (lists_of c.self.inside.inside) [] c.self.invariant.intact)

@@ -10,7 +10,7 @@ use Rattle.crack_state.proofs.LayoutLaws.{cells-intact, pending_out-few}
 use Rattle.crack_state.proofs.StepLaws.{IsIntact-room}
 use Rattle.crack_state.proofs.PointLaws.{stands1, reads_by, IsIntact-renewed, live_rows-renewed}
 use Rattle.crack_store.specs.Inside.{lists_of}
-use Rattle.crack_store.proofs.AdmitLemmas.{is_covered, all_covered}
+use Rattle.crack_store.proofs.AdmitLemmas.{is_covered, all_covered, with_new_cell}
 use Rattle.crack_store.proofs.RememberLemmas.{Remembers-admitted, Remembers-off, Added, added, memory_of, memory-read, memory_at-off}
 use Rattle.crack_store.proofs.PointLemmas.{column_handle}
 use Rattle.crack_store.proofs.store.Store.renew.Goals as goal
@@ -64,7 +64,7 @@ push_remembered-requires-2-clause-covered c =
     let cells_is : c.reserve-3.new.self.cells ≡ s.cells = ap (λ a. a.cells) c.in_ok-reserve-3.ensures.same in
     let free_is : c.reserve-3.new.self.free ≡ s.free = ap (λ a. a.free) c.in_ok-reserve-3.ensures.same in
     let next : c.put_reserved-handle.result ≡ next_handle s = rw (cells_is, free_is) at c.put_reserved-handle.ensures.handle in
-    is_covered c.args.row s c.put_reserved-handle.result c.cells-3.result c.free_cells.result c.make_places-3.new.self.covered next (rw cells_is at c.cells-3.ensures) (rw free_is at c.free_cells.ensures) c.in_ok-make_places-3.ensures.covered c.self.invariant.intact
+    is_covered c.args.row s c.put_reserved-handle.result c.make_places-3.new.self.covered next (with_new_cell s c.cells-3.result c.free_cells.result c.make_places-3.new.self.covered (rw cells_is at c.cells-3.ensures) (rw free_is at c.free_cells.ensures) c.in_ok-make_places-3.ensures.covered) c.self.invariant.intact
 
 pub push_remembered-requires-2-clause-absent : goal.push_remembered-requires-2-clause-absent
 push_remembered-requires-2-clause-absent c =
@@ -126,7 +126,7 @@ invariant_of-self-2 c =
       keys_in = rw (cells_after c) (c.push_remembered-2.ensures.remembered cells (inr (c.of-2.ensures ∙ plus.memory)) (c.in_ok-make_places-3.ensures.remembered cells (c.in_ok-reserve-2.ensures.remembered cells (Remembers-off n.slot s.cells cells kept_in.handles kept_in.remembered plus.agree plus.off_in c.self.invariant.keys_in))));
       keys_out = rw (cells_after c) (c.push_remembered.ensures.remembered cells (inr (c.of.ensures ∙ known)) (c.in_ok-make_places.ensures.remembered cells (c.in_ok-reserve.ensures.remembered cells (Remembers-off n.slot s.cells cells kept_out.handles kept_out.remembered plus.agree plus.off_out c.self.invariant.keys_out))));
       room = omega arith;
-      covered = rw (cells_after c, c.push_remembered-2.ensures.after) (all_covered row s c.cells-3.result c.free_cells.result c.make_places-3.new.self.covered (rw (ap (λ a. a.cells) c.in_ok-reserve-3.ensures.same) at c.cells-3.ensures) (rw (ap (λ a. a.free) c.in_ok-reserve-3.ensures.same) at c.free_cells.ensures) c.in_ok-make_places-3.ensures.covered);
+      covered = rw (cells_after c, c.push_remembered-2.ensures.after) (all_covered row s c.make_places-3.new.self.covered (with_new_cell s c.cells-3.result c.free_cells.result c.make_places-3.new.self.covered (rw (ap (λ a. a.cells) c.in_ok-reserve-3.ensures.same) at c.cells-3.ensures) (rw (ap (λ a. a.free) c.in_ok-reserve-3.ensures.same) at c.free_cells.ensures) c.in_ok-make_places-3.ensures.covered));
     }
 
 pub returns-clause-live : goal.returns-clause-live
