@@ -25,6 +25,7 @@ LIMITS = [
     ("crack_commands", "GREATEST_SERIAL", ["and S at most {}, else 1"]),
     ("crack_core", "MOST_SPLITS", ["more than {} splits", "by 0 to {} splits that rise", "2^64 - 1; {} at most"]),
     ("crack_csv", "MOST_RECORDS", ["a record after the {}th that isn't a header", "n is at most {}. On a fault"]),
+    ("crack_part", "CELLS_AHEAD", ["If there is one for each {} cells, all", "if it has a row for each {} cells"]),
     ("crack_pending", "FIRST_SPOTS", ["Pending insertions have room for {} rows"]),
     ("crack_plain", "MOST_ACCEPTED", ["is answered until {} were accepted"]),
     ("crack_row", "GREATEST_BOUND", ["Range ends are 0 to {}, which is", "| bound | 0 to {};"]),

@@ -1,10 +1,10 @@
 -- What a read of a range within a partition's keys implies for the plain rows.
 use Rattle.std.proofs.Common.{◌≡◌, ℕ, ◌<◌, ◌≤◌, ◌-◌, List, [], ◌∷◌, Bool, false, cond, Some, None, Result, Ok, Err, IfOk, arith, refl, sym, ap, ◌∙◌}
-use Rattle.std.specs.List.{All, count_by}
+use Rattle.std.specs.List.{All, count_by, filter}
 use Rattle.std.specs.List.Sorted.{IsPermutation, IsNonDecreasingBy}
 use Rattle.std.proofs.lemmas.Bool.Decides.{nat_tests}
 use Rattle.std.proofs.lemmas.List.Elements.{All-head, All-tail}
-use Rattle.std.proofs.lemmas.List.Sorted.{All-permutation}
+use Rattle.std.proofs.lemmas.List.Sorted.{All-permutation, IsPermutation-sym, IsPermutation-trans}
 use Rattle.std.proofs.lemmas.List.Sums.{sum_by-cons}
 use Rattle.crack_row.specs.Ranges.{Range, IsIn, is_in, in_range, clipped}
 use Rattle.crack_row.specs.Rows.{sum_of}
@@ -85,6 +85,13 @@ rows-places s r common plain listed is intact settled numbered same holds rising
 pub rows-answered : {V E : Type 0} (items : V → List Row) (told : Result V E) (s : State) (common : Range) → IsIntact s [] → IsSettled s common → IfOk told (λ v. IsPermutation (stretch_rows s common) (items v)) → IfOk told (λ v. IsNonDecreasingBy serial_of (items v)) → IfOk told (λ v. (r : Range) → IsCommon r s.keys (Some common) → (plain : PlainState) → IsNumbered plain → IsPermutation (live_rows s) plain.rows → items v ≡ rows_in r plain.rows)
 rows-answered items (Ok v) s common intact settled holds rising = λ r is plain numbered same. rows-places s r common plain (items v) is intact settled numbered same holds rising
 rows-answered items (Err e) s common intact settled holds rising = tt
+
+-- a list of all live rows of a settled range has the rows between the places of its ends
+pub rows-walked : {V E : Type 0} (items : V → List Row) (told : Result V E) (s : State) (r : Range) → IsSettled s r → IfOk told (λ v. IsPermutation (filter (in_range r) (live_rows s)) (items v)) → IfOk told (λ v. IsPermutation (stretch_rows s r) (items v))
+rows-walked items (Ok v) s r settled holds =
+    let live = filter (in_range r) (live_rows s) in
+    IsPermutation-trans (stretch_rows s r) live (items v) (IsPermutation-sym live (stretch_rows s r) settled.holds) holds
+rows-walked items (Err e) s r settled holds = tt
 
 -- the intersection of a range with keys lies in them
 pub within-clipped : (r keys common : Range) → common ≡ clipped r keys → common.low < common.high → (keys.low ≤ common.low) × (common.high ≤ keys.high)

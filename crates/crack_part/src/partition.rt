@@ -221,7 +221,7 @@ impl Partition {
     /// Without upkeep, an insert is O(1), amortised, and a delete or an update O(log pieces). A command that reads
     /// a range cracks the pieces in which its ends fall, and merges what the range needs by the policy. A count is
     /// then O(log pieces); so is a sum, with a step for each row of the pieces whose sum isn't known; a select is
-    /// O(m log m) for m rows in the range.
+    /// O(m log m) for m rows in the range; O(m) if there is one for each 8 cells, and serials rise with the cells.
     #[inline(always)]
     pub fn apply(&mut self, command: Command, policy: Policy) -> Result<Reply, Refusal>
         ensures reply { IfOk result (λ reply. reply ≡ reply_to (state_of self.old) command) }

@@ -1,11 +1,12 @@
 //! Reads of a range of a store that is settled for it.
 ghost use Rattle.std.specs.Prelude.{◌≡◌, ◌<◌, ◌<ℤ◌, neg_ℤ, pos, ◌^◌, ◌↔◌, List, count_by, IfOk, IfErr, IfSome, IsTrue};
-ghost use Rattle.std.specs.List.Sorted.{IsPermutation};
+ghost use Rattle.std.specs.List.Sorted.{IsPermutation, IsNonDecreasingBy};
 ghost use Rattle.crack_row.specs.Ranges.{Range, in_range};
 ghost use Rattle.crack_row.specs.Rows.{sum_of};
 ghost use Rattle.crack_plain.specs.Plain.{PlainState, IsNumbered, rows_in};
 ghost use Rattle.crack_state.specs.State.{live_rows};
 ghost use Rattle.crack_state.specs.Merge.{IsSettled};
+ghost use Rattle.crack_state.specs.Stretch.{stretch_rows, serial_of};
 ghost use Rattle.crack_part.specs.Inside.{IsCommon};
 ghost use Rattle.crack_part.specs.KnownSums.{KnowsSums};
 ghost use Rattle.crack_part.specs.Parts.{IsFaithful};
@@ -17,6 +18,9 @@ use std::alloc::Global;
 
 /// 2^96. Every sum of rows is nearer to 0.
 const GREATEST_SUM: i128 = 79228162514264337593543950336;
+
+/// How many cells are read in order in about the time in which one is read at random.
+const CELLS_AHEAD: usize = 8;
 
 /// How many rows have their key in a range: the difference of two places of the column. `common` is the
 /// intersection of the range with the keys, if any, for which the store is settled.
@@ -61,8 +65,8 @@ fn is_small(sum: i128) -> bool
     -GREATEST_SUM < sum && sum < GREATEST_SUM
 }
 
-/// The rows whose key is in a range, by rising serial: those between two places of the column, with `common` as for
-/// `count`. Refused with `OutOfMemory` if no memory is found.
+/// The rows whose key is in a range, by rising serial, with `common` as for `count`. Refused with `OutOfMemory` if no
+/// memory is found.
 #[inline(never)]
 pub(crate) fn select(
     store: &Store,
@@ -76,7 +80,24 @@ pub(crate) fn select(
 {
     store.facts();
     match common {
-        Some(range) => store.rows_between(range),
+        Some(range) => rows_of(store, range),
         None => Ok(Vec::new(alloc)),
+    }
+}
+
+/// The rows whose key is in a range, for which the store is settled, by rising serial: the live rows of a pass over
+/// the cells if there is one for each `CELLS_AHEAD` cells, else those between two places of the column. Refused with
+/// `OutOfMemory` if no memory is found.
+fn rows_of(store: &Store, range: KeyRange) -> Result<Vec<Row>, Refusal>
+    requires settled { IsSettled store.now range }
+    ensures rows { IfOk result (λ rows. IsPermutation (stretch_rows store.now range) rows.items) }
+    ensures rising { IfOk result (λ rows. IsNonDecreasingBy serial_of rows.items) }
+    ensures err { IfErr result (λ e. e ≡ Refusal.OutOfMemory) }
+{
+    let rows = store.count_between(range) as usize;
+    if rows >= store.cells() / CELLS_AHEAD {
+        store.live_rows_in(range, rows)
+    } else {
+        store.rows_between(range)
     }
 }

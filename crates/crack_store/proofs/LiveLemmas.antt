@@ -1,24 +1,33 @@
 -- The rows that commands see in cells, one after the other.
-use Rattle.std.proofs.Common.{◌≡◌, ℕ, ◌+◌, ◌<◌, ◌≤◌, List, [], ◌∷◌, ◌++◌, length, get_or, take, drop, Option, refl, sym, ap, ◌∙◌, inl, inr, arith, add-one, zero-add}
-use Rattle.std.specs.List.{cons_option, filter_map, range_with_len}
+use Rattle.std.proofs.Common.{◌≡◌, ℕ, ◌+◌, ◌<◌, ◌≤◌, List, [], ◌∷◌, ◌++◌, length, get_or, take, drop, Bool, true, Option, refl, sym, ap, ◌∙◌, inl, inr, arith, add-one, zero-add}
+use Rattle.std.specs.List.{cons_option, filter, filter_map, range_with_len}
 use Rattle.std.proofs.lemmas.List.{get_or-take, get_or-drop, get_or_append_left, get_or_push, length_push}
-use Rattle.std.proofs.lemmas.List.Elements.{filter_map-append}
+use Rattle.std.proofs.lemmas.List.Elements.{filter-append, filter_map-append, All-weaker}
 use Rattle.std.proofs.lemmas.Bool.{cases_lt}
-use Rattle.crack_row.proofs.Lists.{range_with_len-more}
+use Rattle.crack_row.proofs.Lists.{range_with_len-more, filter_all}
+use Rattle.crack_row.specs.Ranges.{IsIn, in_range}
 use Rattle.crack_row.specs.declared.Row.{Row}
 use Rattle.crack_arena.specs.Arena.{Cell, cell_at, empty_cell}
+use Rattle.crack_pending.proofs.Searches.{is_in-true}
+use Rattle.crack_state.specs.State.{State, IsIntact, live_rows}
 use Rattle.crack_state.specs.Stretch.{serial_of}
+use Rattle.crack_state.proofs.LiveLaws.{live_rows-within}
 use Rattle.crack_store.specs.Found.{AreRising}
 
 longer : (n : ℕ) → range_with_len 0 (n + 1) ≡ range_with_len 0 n ++ n ∷ []
 longer n = rw add-one (rw (zero-add n) at (range_with_len-more 0 n))
 
 -- one more cell
-pub seen-next : (seen : ℕ → Option Row) (rows after : List Row) (slot : ℕ) (o : Option Row) → o ≡ seen slot → rows ≡ filter_map seen (range_with_len 0 slot) → after ≡ rows ++ cons_option o [] → after ≡ filter_map seen (range_with_len 0 (slot + 1))
-seen-next seen rows after slot o shown so_far added =
-    let one : cons_option o [] ≡ filter_map seen (slot ∷ []) = rw shown refl in
-    let more : filter_map seen (range_with_len 0 (slot + 1)) ≡ filter_map seen (range_with_len 0 slot) ++ filter_map seen (slot ∷ []) = ap (filter_map seen) (longer slot) ∙ filter_map-append seen (range_with_len 0 slot) (slot ∷ []) in
-    rw (added, so_far, one, more) refl
+pub seen-next : (seen : ℕ → Option Row) (test : Row → Bool) (rows after : List Row) (slot : ℕ) (o : Option Row) → cons_option o [] ≡ filter test (cons_option (seen slot) []) → rows ≡ filter test (filter_map seen (range_with_len 0 slot)) → after ≡ rows ++ cons_option o [] → after ≡ filter test (filter_map seen (range_with_len 0 (slot + 1)))
+seen-next seen test rows after slot o shown so_far added =
+    let earlier = filter_map seen (range_with_len 0 slot) in
+    let one : filter_map seen (slot ∷ []) ≡ cons_option (seen slot) [] = refl in
+    let more : filter_map seen (range_with_len 0 (slot + 1)) ≡ earlier ++ filter_map seen (slot ∷ []) = ap (filter_map seen) (longer slot) ∙ filter_map-append seen (range_with_len 0 slot) (slot ∷ []) in
+    rw (added, so_far, shown, more, one, filter-append test earlier (cons_option (seen slot) [])) refl
+
+-- every live row's key is one of the partition's
+pub live-all : (s : State) → IsIntact s [] → filter (in_range s.keys) (live_rows s) ≡ live_rows s
+live-all s intact = filter_all (in_range s.keys) (live_rows s) (All-weaker (λ (row : Row). IsIn s.keys row.key.0) (λ (row : Row). in_range s.keys row ≡ true) (λ row is. is_in-true s.keys row.key.0 is) (live_rows s) (live_rows-within s intact))
 
 -- a place of a run that begins at a cell is a cell after it
 pub cell_in-run : (cells part : List (Cell Row)) (slot place : ℕ) → part ≡ take (length part) (drop slot cells) → place < length part → cell_at part place ≡ cell_at cells (slot + place)

@@ -4,7 +4,7 @@ ghost use Rattle.std.specs.Prelude.{◌≡◌, ◌<◌, length};
 use crate::merge::{merge_at, numbers_of};
 use crack_row::{
     Bound, BoundNumber, GREATEST_BOUND, Key, KeyNumber, KeyRange, Payload, PayloadNumber,
-    PieceSize, Policy, Row, Serial,
+    PieceSize, Policy, Refusal, Row, Serial,
 };
 use crack_store::{Carrying, Store};
 use std::alloc::Global;
@@ -37,6 +37,8 @@ pub(crate) enum Step {
     Rewrite(Numbers),
     /// Cracks at the end of the range from 0, and expects this sum of its payloads and these rows.
     Read(BoundNumber, i128, &'static [Numbers]),
+    /// Expects these live rows with keys between two ends, whatever is pending.
+    Live(BoundNumber, BoundNumber, &'static [Numbers]),
     /// Expects this many pending insertions, pending deletions, cells and free cells.
     Count([usize; 4]),
     /// Expects this many rows in the column.
@@ -218,6 +220,14 @@ fn are_rows(rows: &[Row], numbers: &[Numbers]) -> bool {
     rows.len() == numbers.len()
 }
 
+/// Whether these rows were found, in this order.
+fn are_found(found: Result<Vec<Row>, Refusal>, numbers: &[Numbers]) -> bool {
+    match found {
+        Ok(rows) => are_rows(rows.as_slice(), numbers),
+        Err(_) => false,
+    }
+}
+
 /// Whether the rows of the range from 0 have this sum and are these, after a crack at its end.
 fn reads(store: &mut Store, high: BoundNumber, sum: i128, rows: &[Numbers]) -> bool {
     let Ok(range) = KeyRange::new(0, high) else {
@@ -226,8 +236,17 @@ fn reads(store: &mut Store, high: BoundNumber, sum: i128, rows: &[Numbers]) -> b
     if store.crack(range).is_err() || store.sum_between(range) != sum {
         return false;
     }
-    match store.rows_between(range) {
-        Ok(found) => are_rows(found.as_slice(), rows),
+    are_found(store.rows_between(range), rows)
+}
+
+/// Whether the live rows with keys between two ends are these, in a list that is made with room for none, or for more
+/// than there are.
+fn lists(store: &Store, low: BoundNumber, high: BoundNumber, rows: &[Numbers]) -> bool {
+    match KeyRange::new(low, high) {
+        Ok(range) => {
+            are_found(store.live_rows_in(range, 0), rows)
+                && are_found(store.live_rows_in(range, 1000), rows)
+        }
         Err(_) => false,
     }
 }
@@ -298,6 +317,7 @@ fn looks(store: &Store, step: Step) -> bool {
         Step::Next(bound, next) => {
             store.next_bound(Bound::from_number(bound)) == Bound::from_number(next)
         }
+        Step::Live(low, high, rows) => lists(store, low, high, rows),
         Step::Row(serial, pending, found) => {
             store.is_pending(Serial(serial)) == pending
                 && store.row_of(Serial(serial)) == found.map(row)

@@ -1,6 +1,6 @@
 //! Calls of a store with ample memory, and which bounds move if several are at one place.
 use crate::script::{Script, Step, assert_script};
-use crack_row::GREATEST_BOUND;
+use crack_row::{GREATEST_BOUND, Policy};
 
 const SCRIPTS: &[Script] = &[
     Script {
@@ -142,6 +142,56 @@ const SCRIPTS: &[Script] = &[
             Step::Append,
             Step::Read(12, 5, &[(1, 10, 5)]),
             Step::Read(17, 13, &[(0, 16, 8), (1, 10, 5)]),
+        ],
+    },
+    // A later row took the cell of a cancelled one, so serials don't rise with the cells. A doomed row isn't live,
+    // though it stands in the column, and a pending insertion is.
+    Script {
+        name: "live rows of a range are listed in rising serial",
+        first: &[
+            Step::Live(0, GREATEST_BOUND, &[]),
+            Step::Admit((0, 10, 5)),
+            Step::Admit((1, 40, 20)),
+            Step::Admit((2, 15, 7)),
+            Step::Cancel((1, 40, 20)),
+            Step::Admit((3, 12, 1)),
+            Step::Append,
+            Step::Append,
+            Step::Doom((0, 10, 5)),
+            Step::Admit((4, 50, 9)),
+            Step::Admit((5, 14, 3)),
+            Step::Cancel((5, 14, 3)),
+            Step::Count([2, 1, 5, 1]),
+        ],
+        steps: &[
+            Step::Live(0, GREATEST_BOUND, &[(2, 15, 7), (3, 12, 1), (4, 50, 9)]),
+            Step::Live(12, 16, &[(2, 15, 7), (3, 12, 1)]),
+            Step::Live(12, 15, &[(3, 12, 1)]),
+            Step::Live(15, 51, &[(2, 15, 7), (4, 50, 9)]),
+            Step::Live(10, 12, &[]),
+            Step::Live(15, 15, &[]),
+            Step::Live(51, GREATEST_BOUND, &[]),
+        ],
+    },
+    // A complete merge frees the doomed row's cell, which the next row takes.
+    Script {
+        name: "live rows of a range are listed after a merge",
+        first: &[
+            Step::Admit((0, 10, 5)),
+            Step::Admit((1, 16, 8)),
+            Step::Admit((2, 24, 12)),
+            Step::Append,
+            Step::Append,
+            Step::Append,
+            Step::Doom((0, 10, 5)),
+            Step::Merge(Policy::Complete, [0, 30], [0, 1, 0, 0, 0], 2),
+            Step::Admit((3, 20, 6)),
+            Step::Count([1, 0, 3, 0]),
+        ],
+        steps: &[
+            Step::Live(0, 30, &[(1, 16, 8), (2, 24, 12), (3, 20, 6)]),
+            Step::Live(16, 21, &[(1, 16, 8), (3, 20, 6)]),
+            Step::Live(17, 24, &[(3, 20, 6)]),
         ],
     },
     // Rows with serials that are far apart are found by them, and no row is found between them.

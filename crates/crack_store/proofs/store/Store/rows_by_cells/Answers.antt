@@ -36,7 +36,7 @@ pub returns-clause-rows : goal.returns-clause-rows
 returns-clause-rows c =
     let same : length c.args.self.now.cells ≡ length c.self.inside.inside.arena.cells = rw (← c.self.view_is) refl in
     let all : c.runs.slot ≡ length c.args.self.now.cells = omega (arith, same, c.runs.invariant.0, c.runs-test.false, c.cells.ensures) in
-    c.runs.invariant.1 ∙ ap (λ slot. live_below slot c.args.self.now) all
+    c.runs.invariant.1 ∙ ap (λ slot. live_below c.args.range slot c.args.self.now) all
 
 pub returns-clause-order : goal.returns-clause-order
 returns-clause-order c = c.runs.invariant.2
