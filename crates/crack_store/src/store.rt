@@ -15,13 +15,13 @@ ghost use Rattle.crack_store.specs.Inside.{no_cells, IsLayoutOf};
 ghost use Rattle.crack_store.specs.Further.{CracksFurther};
 
 use crate::Carrying;
-use crate::admitting::{add_row, make_room_for_one, make_room_for_run};
+use crate::admitting::{add_row, make_room_for_one};
 use crate::cracking::{code_pending, crack_at_ends, missing_ends};
 use crate::further::{BOUNDS_BESIDE, crack_further};
 use crate::inside::Inside;
 use crate::notes::Notes;
 use crate::steps::{take_in, take_last};
-use crack_arena::{Arena, Handle, MOST_CELLS};
+use crack_arena::{Arena, Handle};
 use crack_column::CrackerColumn;
 use crack_index::CrackerIndex;
 use crack_pending::{PendingIn, PendingOut};
@@ -97,18 +97,6 @@ impl Store {
         make_room_for_one(&mut self.inside, row.serial)?;
         add_row(&mut self.inside, row);
         Ok(())
-    }
-
-    /// Makes room for the next `rows` calls of `admit`, or for as many as there may be cells, if the serials of their
-    /// rows are `first` and those after it; `admit` makes room for what is left. O(1), except for growth. Refused with
-    /// `OutOfMemory` if no memory is found; then there may be room for some.
-    pub fn make_room_for(&mut self, first: Serial, rows: usize) -> Result<(), Refusal>
-        ensures same { self.new ≡ self.old }
-        ensures err { IfErr result (λ e. e ≡ Refusal.OutOfMemory) }
-    {
-        let most = (MOST_CELLS as usize).saturating_sub(self.inside.arena.cells());
-        let rows = rows.min(most);
-        make_room_for_run(&mut self.inside, first, rows)
     }
 
     /// Whether the row with this serial is a pending insertion; `None` if there is no such row. O(1).
