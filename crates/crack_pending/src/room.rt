@@ -198,8 +198,8 @@ fn grow(
     Ok(())
 }
 
-/// Appends zeros until `spots` has at least `cells` numbers and its memory is full. Before that makes room for a
-/// bit for each number.
+/// Appends zeros until `spots` has at least `cells` numbers, and up to `MORE_PLACES` further ones for which there is
+/// memory. Before that makes room for a bit for each number.
 #[inline(never)]
 fn lengthen(spots: &mut Vec<u32>, members: &mut BitSet, cells: usize) -> Result<(), Refusal>
     requires more { vec_len spots.old < cells }
@@ -214,7 +214,8 @@ fn lengthen(spots: &mut Vec<u32>, members: &mut BitSet, cells: usize) -> Result<
 {
     spots.reserve((cells - spots.len()).max(MORE_PLACES))?;
     members.make_places(spots.capacity())?;
-    'cells: while spots.len() < spots.capacity() {
+    let end = cells.saturating_add(MORE_PLACES).min(spots.capacity());
+    'cells: while spots.len() < end {
         spots.push_reserved(0);
     }
     Ok(())
