@@ -6,14 +6,16 @@ use Rattle.std.specs.List.Sorted.{IsPermutation}
 use Rattle.std.proofs.lemmas.List.{length-take-le, length-drop, drop-drop, take_all, take-append-le, append_assoc, length-map, get_or_default}
 use Rattle.std.proofs.lemmas.Slice.{between_is}
 use Rattle.crack_arena.specs.Arena.{Cell, Handle}
+use Rattle.crack_arena.specs.Memories.{Memory}
+use Rattle.crack_tags.specs.Tags.{memory_with, memories_of}
 use Rattle.crack_row.specs.declared.Row.{Row}
 use Rattle.crack_row.specs.Rows.{amount, total_by}
 use Rattle.crack_row.specs.declared.Payload.{Payload}
 use Rattle.crack_row.proofs.Totals.{total_by-map}
-use Rattle.crack_column.specs.declared.tag.Label.{Label}
+use Rattle.crack_tags.specs.declared.label.Label.{Label}
 use Rattle.crack_column.specs.declared.tag.Tag.{Tag}
 use Rattle.crack_column.specs.Column.{IsDividedAt}
-use Rattle.crack_column.specs.Places.{tag_handle}
+use Rattle.crack_column.specs.Places.{tag_handle, memory_of}
 use Rattle.crack_column.specs.Keeps.{remembered_key, unread_in}
 use Rattle.crack_column.specs.Inside.{no_tag, label_of, label_handle, shifted, turned, forgotten, Read, TurnsTags}
 use Rattle.crack_column.specs.Labels.{tag_of, tags_of}
@@ -155,3 +157,14 @@ Turns-parts cells bound from to ls ls' ps ps' n m place learned order within bes
       divided = rw back divided;
       fewer = rw (between-tags_of from to ls ps) at fewer;
     })
+
+-- what is remembered, as a list that is taken over has it
+pub memories-tags_of : (ls : List Label) (ps : List Payload) → map memory_of (tags_of ls ps) ≡ memories_of ls ps
+memories-tags_of [] ps = refl
+memories-tags_of (l ∷ ls) [] = refl
+memories-tags_of (l ∷ ls) (p ∷ ps) = ap (λ (ms : List Memory). memory_with l p ∷ ms) (memories-tags_of ls ps)
+
+-- the keys that are remembered, read either way
+pub keys-remembered : (tags : List Tag) → map (λ (m : Memory). m.key) (map memory_of tags) ≡ map remembered_key tags
+keys-remembered [] = refl
+keys-remembered (t ∷ tags) = ap (λ (ks : List ℕ). t.key ∷ ks) (keys-remembered tags)

@@ -14,7 +14,7 @@ use Rattle.crack_arena.specs.Rows.{key_at, unknown}
 use Rattle.crack_arena.proofs.Times.{times-IsPermutation}
 use Rattle.crack_row.specs.declared.Row.{Row}
 use Rattle.crack_row.specs.declared.Payload.{Payload}
-use Rattle.crack_column.specs.declared.tag.Label.{Label}
+use Rattle.crack_tags.specs.declared.label.Label.{Label}
 use Rattle.crack_column.specs.declared.tag.Tag.{Tag}
 use Rattle.crack_arena.specs.Memories.{Memory, nothing, memory_at, Remembers}
 use Rattle.crack_column.specs.Places.{memory_of, tag_handle, handles_in, remembered_in}

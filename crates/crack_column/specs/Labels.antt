@@ -1,7 +1,7 @@
 -- How tags are stored: labels in one list, payloads in another.
 use Rattle.std.specs.Prelude.{ℕ, List, [], ◌∷◌}
 use Rattle.crack_row.specs.declared.Payload.{Payload}
-use Rattle.crack_column.specs.declared.tag.Label.{Label}
+use Rattle.crack_tags.specs.declared.label.Label.{Label}
 use Rattle.crack_column.specs.declared.tag.Tag.{Tag}
 
 -- the tag of this label and this payload

@@ -7,6 +7,7 @@ ghost use Rattle.crack_arena.specs.Arena.{Cell, StandsAt, IsFirstAt, IsAbsent, n
 ghost use Rattle.crack_arena.specs.Rows.{amount_at, key_at};
 ghost use Rattle.crack_row.specs.Rows.{total_by, farthest_amount};
 ghost use Rattle.crack_arena.specs.Memories.{nothing, Remembers, Agrees};
+ghost use Rattle.crack_tags.specs.Tags.{unknown_in};
 ghost use Rattle.crack_column.specs.Column.{StillRemembers, StillRemembersWith, Cracks};
 ghost use Rattle.crack_column.specs.Column.{first_aside, with_aside, exchanged_aside, appended_aside, popped_aside};
 ghost use Rattle.crack_column.specs.Sifts.{AreRead, Sifts};
@@ -15,6 +16,7 @@ use crate::tag::Tag;
 use crate::tags::Tags;
 use crack_arena::{Arena, Handle, Remembered};
 use crack_row::{InnerBound, Key, Refusal, Row};
+use crack_tags::TagList;
 use std::alloc::Global;
 use std::marker::Model;
 use std::mem;
@@ -71,6 +73,21 @@ impl CrackerColumn {
     {
         let alloc = self.tags.allocator();
         mem::replace(self, CrackerColumn::new(alloc))
+    }
+
+    /// Takes over a list of rows, of which `unread` are unknown, with its memory. The column must have no handles;
+    /// what is aside is dropped. O(1), takes no memory.
+    pub fn adopt(&mut self, rows: TagList, unread: usize)
+        requires empty { self.old.handles ≡ [] }
+        requires few { length rows.handles ≤ 2 ^ 32 }
+        requires unread { unknown_in rows.remembered ≡ unread }
+        ensures handles { self.new.handles ≡ rows.handles }
+        ensures remembered { self.new.remembered ≡ rows.remembered }
+        ensures aside { self.new.aside ≡ [] }
+    {
+        self.len = rows.len();
+        self.unread = unread;
+        self.tags = Tags::of(rows);
     }
 
     /// The number of handles. O(1).

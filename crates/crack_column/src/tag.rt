@@ -17,6 +17,7 @@ ghost use Rattle.crack_column.specs.Inside.{KnowsRow, Read};
 
 use crack_arena::{Arena, Handle, Remembered, UNKNOWN_KEY, amount_of, key_of};
 use crack_row::{InnerBound, Key, KeyNumber, Payload, Row};
+use crack_tags::Label;
 
 /// The tag at a place: the row's handle, and what is remembered about the row.
 #[derive(Clone, Copy)]
@@ -26,24 +27,15 @@ pub(crate) struct Tag {
     pub(crate) handle: Handle<Row>,
 }
 
-/// A tag without its payload: the key, the slot of the row's handle, and the ticket. Takes 16 bytes.
-#[derive(Clone, Copy)]
-pub(crate) struct Label {
-    pub(crate) key: KeyNumber,
-    pub(crate) handle: Handle<Row>,
-}
-
-impl Label {
-    /// The tag of this label and this payload.
-    #[inline(always)]
-    pub(crate) fn with_payload(self, payload: Payload) -> Tag
-        ensures { result ≡ tag_of self payload }
-    {
-        Tag {
-            key: self.key,
-            payload,
-            handle: self.handle,
-        }
+/// The tag of this label and this payload.
+#[inline(always)]
+pub(crate) fn with_payload(label: Label, payload: Payload) -> Tag
+    ensures { result ≡ tag_of label payload }
+{
+    Tag {
+        key: label.key,
+        payload,
+        handle: label.handle,
     }
 }
 
@@ -387,7 +379,7 @@ fn sum_read(labels: &[Label], payloads: &[Payload], arena: &Arena<Row>) -> i128
 {
     let mut sum = 0;
     'tags: for i in 0..labels.len() {
-        sum += labels[i].with_payload(payloads[i]).amount(arena);
+        sum += with_payload(labels[i], payloads[i]).amount(arena);
     }
     sum
 }

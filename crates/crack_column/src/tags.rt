@@ -7,12 +7,13 @@ ghost use Rattle.crack_arena.specs.Rows.{amount_at};
 ghost use Rattle.crack_row.specs.Rows.{total_by, farthest_amount};
 ghost use Rattle.crack_column.specs.declared.TheConstants.{MOST_PLACES};
 ghost use Rattle.crack_column.specs.Keeps.{unread_in};
-ghost use Rattle.crack_column.specs.Places.{tag_handle};
+ghost use Rattle.crack_column.specs.Places.{memory_of, tag_handle};
 ghost use Rattle.crack_column.specs.Inside.{no_tag, label_of, tag_put_at, KnowsRow, TurnsTags, SiftsTags};
 
-use crate::tag::{self, Label, Tag};
+use crate::tag::{self, Tag, with_payload};
 use crack_arena::{Arena, Handle};
 use crack_row::{InnerBound, KeyNumber, Payload, Refusal, Row};
+use crack_tags::{Label, TagList};
 use std::alloc::Global;
 use std::marker::Model;
 
@@ -49,6 +50,15 @@ impl Tags {
         }
     }
 
+    /// Takes over the labels and payloads of a list. O(1), takes no memory.
+    pub(crate) fn of(rows: TagList) -> Tags
+        ensures handles { map tag_handle result.items ≡ rows.handles }
+        ensures remembered { map memory_of result.items ≡ rows.remembered }
+    {
+        let (labels, payloads) = rows.into_lists();
+        Tags { labels, payloads }
+    }
+
     pub(crate) fn allocator(&self) -> Global {
         *self.labels.allocator()
     }
@@ -67,7 +77,7 @@ impl Tags {
         requires { place < length self.now.items }
         ensures { result ≡ slice_index_or self.now.items place no_tag }
     {
-        self.labels[place].with_payload(self.payloads[place])
+        with_payload(self.labels[place], self.payloads[place])
     }
 
     /// The label at the place: its tag without the payload.

@@ -1,8 +1,7 @@
 -- What a block of keys without a hit says about its rows.
-use Rattle.std.proofs.Common.{◌≡◌, ◌≢◌, ℕ, ◌+◌, ◌-◌, ◌<◌, ◌≤◌, ◌%◌, Bool, true, false, List, get_or, take, drop, leb, refl, ap, ◌∙◌, inl, inr, arith, leb-false}
+use Rattle.std.proofs.Common.{◌≡◌, ◌≢◌, ℕ, ◌+◌, ◌-◌, ◌<◌, ◌≤◌, ◌%◌, Bool, true, false, List, get_or, leb, refl, ap, inl, inr, arith, leb-false}
 use Rattle.std.specs.Prelude.{bit_or}
 use Rattle.std.proofs.lemmas.Nat.{le_or_l, le_or_r}
-use Rattle.std.proofs.lemmas.List.{get_or-take, get_or-drop}
 use mir.Val.{bool_byte}
 use Rattle.crack_row.specs.Ranges.{Range}
 use Rattle.crack_row.specs.declared.TheConstants.{GREATEST_BOUND}
@@ -30,13 +29,12 @@ apart_code code low last order small far lies =
     absurd (omega (arith, beyond, order, small, lies.0, lies.1))
 
 -- if none of a block's keys lies between the ends of the range, and none is unknown, none of its rows has its key in the range
-pub missed_block : (range : Range) (cells : List (Cell Row)) (handles : List Handle) (remembered : List Memory) (stands : List Bool) (from low last : ℕ) (some_unknown : Bool) → KnowRows cells handles remembered stands → (some_unknown ≡ false → KeysAreKnown remembered stands) → range.low ≡ low → range.high ≡ last + 1 → ((k : ℕ) → k < 16 → ¬ Lies low last (get_or (take (from + 16 - from) (drop from remembered)) k nothing).key) → (some_unknown ≡ true → (k : ℕ) → k < 16 → (get_or (take (from + 16 - from) (drop from remembered)) k nothing).key ≢ unknown) → IsMissed range cells handles stands from (from + 16)
+pub missed_block : (range : Range) (cells : List (Cell Row)) (handles : List Handle) (remembered : List Memory) (stands : List Bool) (from low last : ℕ) (some_unknown : Bool) → KnowRows cells handles remembered stands → (some_unknown ≡ false → KeysAreKnown remembered stands) → range.low ≡ low → range.high ≡ last + 1 → ((k : ℕ) → k < 16 → ¬ Lies low last (get_or remembered (from + k) nothing).key) → (some_unknown ≡ true → (k : ℕ) → k < 16 → (get_or remembered (from + k) nothing).key ≢ unknown) → IsMissed range cells handles stands from (from + 16)
 missed_block range cells handles remembered stands from low last some_unknown known all_known is_low is_high none none_unknown spot after before at inside =
     let k = spot - from in
     let within : k < 16 = omega (arith, after, before) in
     let place : from + k ≡ spot = omega (arith, after) in
-    let same : get_or (take (from + 16 - from) (drop from remembered)) k nothing ≡ get_or remembered spot nothing =
-    get_or-take (from + 16 - from) (drop from remembered) k nothing (omega (arith, within)) ∙ get_or-drop from remembered k nothing ∙ ap (λ n. get_or remembered n nothing) place in
+    let same : get_or remembered (from + k) nothing ≡ get_or remembered spot nothing = ap (λ n. get_or remembered n nothing) place in
     let miss : ¬ Lies low last ((get_or remembered spot nothing).key) = rw same at (none k within) in
     let is_known : (get_or remembered spot nothing).key ≢ unknown = by_case some_unknown (λ e. all_known e spot at) (λ e. rw same at (none_unknown e k within)) in
     elim (known spot at) [

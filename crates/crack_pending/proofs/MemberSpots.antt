@@ -39,6 +39,13 @@ module _ {words : List ℕ} {handles : List Handle} {covered : ℕ} (members : A
     );
   }
 
+  -- no bit is left
+  pub members_emptied : ((slot : ℕ) → ¬ Has words' slot) → AreMembers words' [] covered
+  members_emptied none = record {
+    within = omega (arith, members.within, long);
+    right = λ slot. (λ has. absurd (none slot has), λ some. absurd (omega (arith, some, times-nil slot)));
+  }
+
   -- all rows go
   pub members_clear : ((slot : ℕ) → Has words' slot ↔ (Has words slot × (times slot (slots handles) ≡ 0))) → AreMembers words' [] covered
   members_clear struck = record {

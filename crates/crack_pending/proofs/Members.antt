@@ -1,5 +1,5 @@
 -- Laws of the bits that say which cells have a handle in a list.
-use Rattle.std.proofs.Common.{◌≡◌, ◌≢◌, ℕ, zero, suc, ◌+◌, ◌/◌, ◌%◌, ◌*◌, ◌^◌, ◌<◌, ◌≤◌, ◌↔◌, true, eqb, List, [], ◌∷◌, ◌++◌, length, get_or, set, refl, sym, ap, ◌∙◌, inl, inr, arith, eqb-true, eq-eqb, w64}
+use Rattle.std.proofs.Common.{◌≡◌, ◌≢◌, ℕ, zero, suc, ◌+◌, ◌/◌, ◌%◌, ◌*◌, ◌^◌, ◌<◌, ◌≤◌, ◌↔◌, true, eqb, List, [], ◌∷◌, ◌++◌, length, get_or, set, replicate, refl, sym, ap, ◌∙◌, inl, inr, arith, eqb-true, eq-eqb, w64}
 use Rattle.std.specs.Prelude.{bit_and, bit_or}
 use Rattle.std.specs.List.{remove}
 use Rattle.std.specs.Int.{bit_at, bit_not}
@@ -25,6 +25,21 @@ Has-within words number has = elim (cases_lt (number / 64) (length words)) [
       let none : bit_at (get_or words (number / 64) 0) (number % 64) ≡ 0 = ap (λ n. bit_at n (number % 64)) word ∙ bit_at-zero (number % 64) in
       absurd (omega (arith, none, has))
 ]
+
+abbrev pub zeros : ℕ → List ℕ
+zeros n = replicate n 0
+
+zero_at : (n k : ℕ) → get_or (zeros n) k 0 ≡ 0
+zero_at zero k = refl
+zero_at (suc n) zero = refl
+zero_at (suc n) (suc k) = zero_at n k
+
+-- words that are 0 have no bits
+pub Has-zeros : (n number : ℕ) → ¬ Has (zeros n) number
+unfolding Has
+Has-zeros n number has =
+    let none : bit_at (get_or (zeros n) (number / 64) 0) (number % 64) ≡ 0 = ap (λ w. bit_at w (number % 64)) (zero_at n (number / 64)) ∙ bit_at-zero (number % 64) in
+    absurd (omega (arith, none, has))
 
 -- words that read the same have the same bits
 pub Has-same : (words words' : List ℕ) → ((k : ℕ) → get_or words' k 0 ≡ get_or words k 0) → (number : ℕ) → Has words' number ↔ Has words number

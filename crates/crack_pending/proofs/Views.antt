@@ -28,6 +28,10 @@ module _ (handles : List Handle) (stands : List Bool) (beside : length stands �
       omega (arith, length-kept stands handles beside, place_at-before stands spot (length stands) at within)
 
   -- and it is there
+  -- a handle that was read at a row's spot, with any default
+  pub read-at : (spot : ℕ) (h : Handle) → HasRow stands spot → h ≡ get_or handles spot no_handle → h ≡ get_or handles spot h
+  read-at spot h at is = is ∙ get_or_default handles spot no_handle h (omega (arith, Stands-within stands spot at, beside))
+
   pub place-StandsAt : (spot : ℕ) (h : Handle) → HasRow stands spot → h ≡ get_or handles spot h → StandsAt (kept stands handles) (place_at stands spot) h
   place-StandsAt spot h at is = record { within = place-within spot at; is = is ∙ sym (kept-at stands handles spot h beside at) }
 
@@ -346,38 +350,38 @@ pub view_after : (hs hs' : List Handle) (ks ks' : List Memory) (room room' cover
 view_after hs hs' ks ks' room room' covered covered' e f h g = rw (e, f, h, g) refl
 
 -- fewer spots and more memory: no less room
-pub room-more : (n n' h h' k k' s s' : ℕ) → n' ≤ n → h ≤ h' → k ≤ k' → s ≤ s' → spot_room n h k s ≤ spot_room n' h' k' s'
-room-more n n' h h' k k' s s' a b c d = omega (arith, a, b, c, d)
+pub room-more : (n n' h h' s s' : ℕ) → n' ≤ n → h ≤ h' → s ≤ s' → spot_room n h s ≤ spot_room n' h' s'
+room-more n n' h h' s s' a b c = omega (arith, a, b, c)
 
-pub room-enough : (n more h k s : ℕ) → n + more ≤ 2 ^ 32 → n + more ≤ h → n + more ≤ k → n + more ≤ s → more ≤ spot_room n h k s
-room-enough n more h k s a b c d = omega (arith, a, b, c, d)
+pub room-enough : (n more h s : ℕ) → n + more ≤ 2 ^ 32 → n + more ≤ h → n + more ≤ s → more ≤ spot_room n h s
+room-enough n more h s a b c = omega (arith, a, b, c)
 
-pub room-within : (n more h k s : ℕ) → 0 < more → more ≤ spot_room n h k s → (n + more ≤ 2 ^ 32) × (n + more ≤ h) × (n + more ≤ k) × (n + more ≤ s)
-room-within n more h k s some within = (omega (arith, some, within), omega (arith, some, within), omega (arith, some, within), omega (arith, some, within))
+pub room-within : (n more h s : ℕ) → 0 < more → more ≤ spot_room n h s → (n + more ≤ 2 ^ 32) × (n + more ≤ h) × (n + more ≤ s)
+room-within n more h s some within = (omega (arith, some, within), omega (arith, some, within), omega (arith, some, within))
 
 -- a list that takes less memory, and has fewer spots
 pub memory-sure : (n rows sure wanted cap cap' : ℕ) → rows ≤ n → sure ≤ wanted → n + sure ≤ cap → min (rows + wanted) cap ≤ cap' → rows + sure ≤ cap'
 memory-sure n rows sure wanted cap cap' few less within kept = omega (arith, few, less, within, kept)
 
 -- pushes that needed no memory still need none
-pub room-sure : (n rows sure wanted h k s h' k' s' : ℕ) → rows ≤ n → sure ≤ wanted → sure ≤ spot_room n h k s → min (rows + wanted) h ≤ h' → min (rows + wanted) k ≤ k' → min (rows + wanted) s ≤ s' → sure ≤ spot_room rows h' k' s'
-room-sure n rows sure wanted h k s h' k' s' few less within kept_h kept_k kept_s = elim (cases_eq sure 0) [
+pub room-sure : (n rows sure wanted h s h' s' : ℕ) → rows ≤ n → sure ≤ wanted → sure ≤ spot_room n h s → min (rows + wanted) h ≤ h' → min (rows + wanted) s ≤ s' → sure ≤ spot_room rows h' s'
+room-sure n rows sure wanted h s h' s' few less within kept_h kept_s = elim (cases_eq sure 0) [
   | inl e ↦ rw e (omega arith)
   | inr ne ↦
-      let all = room-within n sure h k s (omega (arith, ne)) within in
-      room-enough rows sure h' k' s' (omega (arith, few, all.0)) (memory-sure n rows sure wanted h h' few less all.1 kept_h) (memory-sure n rows sure wanted k k' few less all.2 kept_k) (memory-sure n rows sure wanted s s' few less all.3 kept_s)
+      let all = room-within n sure h s (omega (arith, ne)) within in
+      room-enough rows sure h' s' (omega (arith, few, all.0)) (memory-sure n rows sure wanted h h' few less all.1 kept_h) (memory-sure n rows sure wanted s s' few less all.2 kept_s)
 ]
 
-pub room-less : (n h k s : ℕ) → spot_room (n + 1) h k s ≡ spot_room n h k s - 1
-room-less n h k s = omega arith
+pub room-less : (n h s : ℕ) → spot_room (n + 1) h s ≡ spot_room n h s - 1
+room-less n h s = omega arith
 
-pub room-some : (n h k s : ℕ) → 0 < spot_room n h k s → (n < 2 ^ 32) × (n < h) × (n < k) × (n < s)
-room-some n h k s some = (omega (arith, some), omega (arith, some), omega (arith, some), omega (arith, some))
+pub room-some : (n h s : ℕ) → 0 < spot_room n h s → (n < 2 ^ 32) × (n < h) × (n < s)
+room-some n h s some = (omega (arith, some), omega (arith, some), omega (arith, some))
 
--- the conclusion from three premises
-pub OnOk_three : {A E : Type 0} (r : Result A E) (P Q R S : Type 0) → OnOk r P → OnOk r Q → OnOk r R → (P → Q → R → S) → OnOk r S
-OnOk_three (Ok x) P Q R S p q s f = f p q s
-OnOk_three (Err e) P Q R S p q s f = tt
+-- the conclusion from two premises
+pub OnOk_two : {A E : Type 0} (r : Result A E) (P Q R : Type 0) → OnOk r P → OnOk r Q → (P → Q → R) → OnOk r R
+OnOk_two (Ok x) P Q R p q f = f p q
+OnOk_two (Err e) P Q R p q f = tt
 
 pub handle-is : (h k : Handle) → h.slot ≡ k.slot → h.generation ≡ k.generation → h ≡ k
 handle-is h k e f = rw (e, f) refl

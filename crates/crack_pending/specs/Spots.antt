@@ -7,5 +7,5 @@ kept (b ∷ bs) (x ∷ xs) = cond b (x ∷ kept bs xs) (kept bs xs)
 kept _ _ = []
 
 -- the number of further spots that need no memory, of at most 2^32 spots in total
-abbrev pub spot_room : ℕ → ℕ → ℕ → ℕ → ℕ
-spot_room spots handle_capacity remembered_capacity stand_capacity = min (2 ^ 32) (min handle_capacity (min remembered_capacity stand_capacity)) - spots
+abbrev pub spot_room : ℕ → ℕ → ℕ → ℕ
+spot_room spots tag_capacity stand_capacity = min (2 ^ 32) (min tag_capacity stand_capacity) - spots

@@ -6,8 +6,9 @@ ghost use Rattle.crack_pending.specs.Inside.{Lies};
 ghost use Rattle.crack_pending.specs.Ahead.{AreCandidates, IsAhead, IsNext};
 
 use crate::code_pass::any_lies;
-use crack_arena::{Arena, Handle};
+use crack_arena::Arena;
 use crack_row::Row;
+use crack_tags::TagList;
 use std::alloc::Global;
 
 /// How many codes are read at once, without a branch for each.
@@ -156,13 +157,13 @@ impl Ahead {
 
     /// Reads the cells of all candidates, if they weren't read yet.
     #[inline]
-    pub(crate) fn warm(&mut self, handles: &[Handle<Row>], arena: &Arena<Row>)
+    pub(crate) fn warm(&mut self, tags: &TagList, arena: &Arena<Row>)
         ensures { (codes : List ℕ) → IsAhead codes self.old → IsAhead codes self.new }
     {
         if self.is_warm {
             return;
         }
-        self.live = live_cells(&self.candidates, handles, arena);
+        self.live = live_cells(&self.candidates, tags, arena);
         self.is_warm = true;
     }
 
@@ -193,11 +194,11 @@ fn first_behind(candidates: &[usize], next: usize, start: usize) -> usize
 
 /// The number of candidates whose cells have a row.
 #[inline(never)]
-fn live_cells(candidates: &[usize], handles: &[Handle<Row>], arena: &Arena<Row>) -> usize {
+fn live_cells(candidates: &[usize], tags: &TagList, arena: &Arena<Row>) -> usize {
     let mut live = 0;
     'candidates: for place in 0..candidates.len() {
         let spot = candidates[place];
-        if spot < handles.len() && arena.get(handles[spot]).is_some() {
+        if spot < tags.len() && arena.get(tags.handle(spot)).is_some() {
             live += 1;
         }
     }

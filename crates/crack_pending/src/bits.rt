@@ -52,6 +52,14 @@ impl BitSet {
         lengthen_words(&mut self.words, words)
     }
 
+    /// Takes all numbers out of the set. O(1) for each 64 numbers that have a bit.
+    pub(crate) fn clear(&mut self)
+        ensures none { (number : ℕ) → ¬ Has self.new number }
+        ensures long { length self.new ≡ length self.old }
+    {
+        self.words.fill(0);
+    }
+
     /// Whether the number is in the set. O(1).
     #[inline]
     pub(crate) fn has(&self, number: u32) -> bool

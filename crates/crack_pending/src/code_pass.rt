@@ -11,8 +11,9 @@ ghost use Rattle.crack_pending.specs.Inside.{Lies, KeysAreKnown, IsMissed, IsHit
 
 use crate::codes::Codes;
 use crate::pass::Wanted;
-use crack_arena::{Arena, Handle, Remembered, UNKNOWN_KEY};
+use crack_arena::{Arena, UNKNOWN_KEY};
 use crack_row::{KeyRange, Row};
+use crack_tags::TagList;
 
 /// How many codes are read at once, without a branch for each.
 const BLOCK: usize = 32;
@@ -130,8 +131,7 @@ fn many_may_hit(codes: &[u16], window: Window) -> bool
 /// range, or that of unknown keys.
 #[inline(always)]
 pub(crate) fn is_hit(
-    handles: &[Handle<Row>],
-    remembered: &[Remembered],
+    tags: &TagList,
     stands: &[bool],
     codes: &Codes,
     spot: usize,
@@ -139,17 +139,18 @@ pub(crate) fn is_hit(
     window: Window,
     arena: &Arena<Row>,
 ) -> bool
-    requires remembered_beside { length remembered.now ≡ length handles.now }
-    requires stands { length stands.now ≡ length handles.now }
+    requires remembered_beside { length tags.now.remembered ≡ length tags.now.handles }
+    requires stands { length stands.now ≡ length tags.now.handles }
     requires within { spot < length codes.now.codes }
-    requires coded { AreCoded remembered.now stands.now codes.now }
+    requires coded { AreCoded tags.now.remembered stands.now codes.now }
     requires window { IsWindow codes.now.base codes.now.shift range window.first window.last window.beyond }
-    requires known { KnowRows arena.now.cells handles.now remembered.now stands.now }
-    requires all_known { IsFalse window.some_unknown → KeysAreKnown remembered.now stands.now }
+    requires known { KnowRows arena.now.cells tags.now.handles tags.now.remembered stands.now }
+    requires all_known { IsFalse window.some_unknown → KeysAreKnown tags.now.remembered stands.now }
     ensures stands { IsTrue result → HasRow stands.now spot }
-    ensures holds { IsTrue result → IsIn range (key_at arena.now.cells (slice_index_or handles.now spot no_handle)) }
+    ensures holds { IsTrue result → IsIn range (key_at arena.now.cells (slice_index_or tags.now.handles spot
+        no_handle)) }
     ensures missed { IsFalse result → HasRow stands.now spot → ¬ IsIn range (key_at arena.now.cells
-        (slice_index_or handles.now spot no_handle)) }
+        (slice_index_or tags.now.handles spot no_handle)) }
 {
     let code = codes.list()[spot];
     if !window.may_hold(code) {
@@ -158,13 +159,12 @@ pub(crate) fn is_hit(
     if window.is_inside(code) {
         return true;
     }
-    range.contains(remembered[spot].key_of(handles[spot], arena))
+    range.contains(tags.memory(spot).key_of(tags.handle(spot), arena))
 }
 
 /// The first spot in `from..to` whose row has its key in the range. Looks at the code of each spot.
 fn hit_between(
-    handles: &[Handle<Row>],
-    remembered: &[Remembered],
+    tags: &TagList,
     stands: &[bool],
     codes: &Codes,
     from: usize,
@@ -173,21 +173,19 @@ fn hit_between(
     window: Window,
     arena: &Arena<Row>,
 ) -> Option<usize>
-    requires remembered_beside { length remembered.now ≡ length handles.now }
-    requires stands { length stands.now ≡ length handles.now }
+    requires remembered_beside { length tags.now.remembered ≡ length tags.now.handles }
+    requires stands { length stands.now ≡ length tags.now.handles }
     requires within { to ≤ length codes.now.codes }
-    requires coded { AreCoded remembered.now stands.now codes.now }
+    requires coded { AreCoded tags.now.remembered stands.now codes.now }
     requires window { IsWindow codes.now.base codes.now.shift range window.first window.last window.beyond }
-    requires known { KnowRows arena.now.cells handles.now remembered.now stands.now }
-    requires all_known { IsFalse window.some_unknown → KeysAreKnown remembered.now stands.now }
+    requires known { KnowRows arena.now.cells tags.now.handles tags.now.remembered stands.now }
+    requires all_known { IsFalse window.some_unknown → KeysAreKnown tags.now.remembered stands.now }
     ensures { MatchOption result
-        (IsMissed range arena.now.cells handles.now stands.now from to)
-        (λ spot. IsHit range arena.now.cells handles.now stands.now from to spot) }
+        (IsMissed range arena.now.cells tags.now.handles stands.now from to)
+        (λ spot. IsHit range arena.now.cells tags.now.handles stands.now from to spot) }
 {
     'spots: for spot in from..to {
-        if is_hit(
-            handles, remembered, stands, codes, spot, range, window, arena,
-        ) {
+        if is_hit(tags, stands, codes, spot, range, window, arena) {
             return Some(spot);
         }
     }
@@ -197,8 +195,7 @@ fn hit_between(
 /// The first spot of the block at `from` whose row has its key in the range. Looks at each spot only if the codes
 /// don't rule out the whole block.
 fn hit_in_block(
-    handles: &[Handle<Row>],
-    remembered: &[Remembered],
+    tags: &TagList,
     stands: &[bool],
     codes: &Codes,
     from: usize,
@@ -206,23 +203,22 @@ fn hit_in_block(
     window: Window,
     arena: &Arena<Row>,
 ) -> Option<usize>
-    requires remembered_beside { length remembered.now ≡ length handles.now }
-    requires stands { length stands.now ≡ length handles.now }
+    requires remembered_beside { length tags.now.remembered ≡ length tags.now.handles }
+    requires stands { length stands.now ≡ length tags.now.handles }
     requires within { from + 32 ≤ length codes.now.codes }
-    requires coded { AreCoded remembered.now stands.now codes.now }
+    requires coded { AreCoded tags.now.remembered stands.now codes.now }
     requires window { IsWindow codes.now.base codes.now.shift range window.first window.last window.beyond }
-    requires known { KnowRows arena.now.cells handles.now remembered.now stands.now }
-    requires all_known { IsFalse window.some_unknown → KeysAreKnown remembered.now stands.now }
+    requires known { KnowRows arena.now.cells tags.now.handles tags.now.remembered stands.now }
+    requires all_known { IsFalse window.some_unknown → KeysAreKnown tags.now.remembered stands.now }
     ensures { MatchOption result
-        (IsMissed range arena.now.cells handles.now stands.now from (from + 32))
-        (λ spot. IsHit range arena.now.cells handles.now stands.now from (from + 32) spot) }
+        (IsMissed range arena.now.cells tags.now.handles stands.now from (from + 32))
+        (λ spot. IsHit range arena.now.cells tags.now.handles stands.now from (from + 32) spot) }
 {
     if !may_hit(&codes.list()[from..from + BLOCK], window) {
         return None;
     }
     hit_between(
-        handles,
-        remembered,
+        tags,
         stands,
         codes,
         from,
@@ -235,8 +231,7 @@ fn hit_in_block(
 
 /// The first spot in `from..to` whose row has its key in the range. Passes over blocks of codes.
 fn hit_in_blocks(
-    handles: &[Handle<Row>],
-    remembered: &[Remembered],
+    tags: &TagList,
     stands: &[bool],
     codes: &Codes,
     from: usize,
@@ -245,36 +240,31 @@ fn hit_in_blocks(
     window: Window,
     arena: &Arena<Row>,
 ) -> Option<usize>
-    requires remembered_beside { length remembered.now ≡ length handles.now }
-    requires stands { length stands.now ≡ length handles.now }
+    requires remembered_beside { length tags.now.remembered ≡ length tags.now.handles }
+    requires stands { length stands.now ≡ length tags.now.handles }
     requires order { from ≤ to }
     requires within { to ≤ length codes.now.codes }
-    requires coded { AreCoded remembered.now stands.now codes.now }
+    requires coded { AreCoded tags.now.remembered stands.now codes.now }
     requires window { IsWindow codes.now.base codes.now.shift range window.first window.last window.beyond }
-    requires known { KnowRows arena.now.cells handles.now remembered.now stands.now }
-    requires all_known { IsFalse window.some_unknown → KeysAreKnown remembered.now stands.now }
+    requires known { KnowRows arena.now.cells tags.now.handles tags.now.remembered stands.now }
+    requires all_known { IsFalse window.some_unknown → KeysAreKnown tags.now.remembered stands.now }
     ensures { MatchOption result
-        (IsMissed range arena.now.cells handles.now stands.now from to)
-        (λ spot. IsHit range arena.now.cells handles.now stands.now from to spot) }
+        (IsMissed range arena.now.cells tags.now.handles stands.now from to)
+        (λ spot. IsHit range arena.now.cells tags.now.handles stands.now from to spot) }
 {
     let mut spot = from;
     'far: while BLOCK <= to - spot {
-        if let Some(hit) = hit_in_block(
-            handles, remembered, stands, codes, spot, range, window, arena,
-        ) {
+        if let Some(hit) = hit_in_block(tags, stands, codes, spot, range, window, arena) {
             return Some(hit);
         }
         spot += BLOCK;
     }
-    hit_between(
-        handles, remembered, stands, codes, spot, to, range, window, arena,
-    )
+    hit_between(tags, stands, codes, spot, to, range, window, arena)
 }
 
 /// The first spot at or after `from`, of those that have a code, whose row has its key in a range that isn't empty.
 pub(crate) fn hit_in_codes(
-    handles: &[Handle<Row>],
-    remembered: &[Remembered],
+    tags: &TagList,
     stands: &[bool],
     codes: &Codes,
     from: usize,
@@ -282,16 +272,16 @@ pub(crate) fn hit_in_codes(
     window: Window,
     arena: &Arena<Row>,
 ) -> Option<usize>
-    requires remembered_beside { length remembered.now ≡ length handles.now }
-    requires stands { length stands.now ≡ length handles.now }
+    requires remembered_beside { length tags.now.remembered ≡ length tags.now.handles }
+    requires stands { length stands.now ≡ length tags.now.handles }
     requires within { from ≤ length codes.now.codes }
-    requires coded { AreCoded remembered.now stands.now codes.now }
+    requires coded { AreCoded tags.now.remembered stands.now codes.now }
     requires window { IsWindow codes.now.base codes.now.shift range window.first window.last window.beyond }
-    requires known { KnowRows arena.now.cells handles.now remembered.now stands.now }
-    requires all_known { IsFalse window.some_unknown → KeysAreKnown remembered.now stands.now }
+    requires known { KnowRows arena.now.cells tags.now.handles tags.now.remembered stands.now }
+    requires all_known { IsFalse window.some_unknown → KeysAreKnown tags.now.remembered stands.now }
     ensures { MatchOption result
-        (IsMissed range arena.now.cells handles.now stands.now from (length codes.now.codes))
-        (λ spot. IsHit range arena.now.cells handles.now stands.now from (length codes.now.codes) spot) }
+        (IsMissed range arena.now.cells tags.now.handles stands.now from (length codes.now.codes))
+        (λ spot. IsHit range arena.now.cells tags.now.handles stands.now from (length codes.now.codes) spot) }
 {
     let mut spot = from;
     'far: while MANY <= codes.len() - spot {
@@ -300,8 +290,7 @@ pub(crate) fn hit_in_codes(
             continue;
         }
         if let Some(hit) = hit_in_blocks(
-            handles,
-            remembered,
+            tags,
             stands,
             codes,
             spot,
@@ -314,15 +303,5 @@ pub(crate) fn hit_in_codes(
         }
         spot += MANY;
     }
-    hit_in_blocks(
-        handles,
-        remembered,
-        stands,
-        codes,
-        spot,
-        codes.len(),
-        range,
-        window,
-        arena,
-    )
+    hit_in_blocks(tags, stands, codes, spot, codes.len(), range, window, arena)
 }

@@ -4,8 +4,9 @@ ghost use Rattle.crack_pending.specs.Ahead.{IsNext};
 ghost use Rattle.crack_pending.specs.Codes.{AreCoded, key_code};
 
 use crate::ahead::Ahead;
-use crack_arena::{Arena, Handle, Remembered, UNKNOWN_KEY};
+use crack_arena::{Arena, UNKNOWN_KEY};
 use crack_row::{KeyNumber, Row};
+use crack_tags::TagList;
 use std::alloc::Global;
 use std::marker::Model;
 
@@ -148,66 +149,62 @@ impl Codes {
     }
 
     /// Reads the cells of the rows that were found ahead.
-    pub(crate) fn warm(&mut self, handles: &[Handle<Row>], arena: &Arena<Row>)
+    pub(crate) fn warm(&mut self, tags: &TagList, arena: &Arena<Row>)
         ensures { self.new ≡ self.old }
     {
-        self.ahead.warm(handles, arena);
+        self.ahead.warm(tags, arena);
     }
 
     /// Does what `catch_up` does if many spots have no code; otherwise does nothing. Amortised O(1) for each spot.
     #[inline]
-    pub(crate) fn catch_up_if_many(&mut self, remembered: &[Remembered], stands: &[bool])
-        requires beside { length stands.now ≡ length remembered.now }
-        requires coded { AreCoded remembered.now stands.now self.old }
-        ensures { AreCoded remembered.now stands.now self.new }
+    pub(crate) fn catch_up_if_many(&mut self, tags: &TagList, stands: &[bool])
+        requires beside { length stands.now ≡ length tags.now.remembered }
+        requires coded { AreCoded tags.now.remembered stands.now self.old }
+        ensures { AreCoded tags.now.remembered stands.now self.new }
     {
-        if remembered.len() - self.codes.len() <= MOST_UNCODED {
+        if tags.len() - self.codes.len() <= MOST_UNCODED {
             return;
         }
-        self.catch_up(remembered, stands);
+        self.catch_up(tags, stands);
     }
 
     /// Codes the rows at all spots that have no code. O(1) for each spot. Codes none if no memory is found.
     #[inline(never)]
-    fn catch_up(&mut self, remembered: &[Remembered], stands: &[bool])
-        requires beside { length stands.now ≡ length remembered.now }
-        requires coded { AreCoded remembered.now stands.now self.old }
-        ensures { AreCoded remembered.now stands.now self.new }
+    fn catch_up(&mut self, tags: &TagList, stands: &[bool])
+        requires beside { length stands.now ≡ length tags.now.remembered }
+        requires coded { AreCoded tags.now.remembered stands.now self.old }
+        ensures { AreCoded tags.now.remembered stands.now self.new }
     {
-        if self
-            .codes
-            .reserve(remembered.len() - self.codes.len())
-            .is_err()
-        {
+        if self.codes.reserve(tags.len() - self.codes.len()).is_err() {
             return;
         }
         if self.codes.is_empty() {
-            self.scale = scale_of(remembered);
+            self.scale = scale_of(tags);
         }
-        append_codes(&mut self.codes, self.scale, remembered, stands);
+        append_codes(&mut self.codes, self.scale, tags, stands);
     }
 }
 
 /// Codes the rows at all spots that have no code. There must be room.
-fn append_codes(codes: &mut Vec<u16>, scale: Scale, remembered: &[Remembered], stands: &[bool])
-    requires beside { length stands.now ≡ length remembered.now }
-    requires room { length remembered.now ≤ vec_capacity codes.old }
+fn append_codes(codes: &mut Vec<u16>, scale: Scale, tags: &TagList, stands: &[bool])
+    requires beside { length stands.now ≡ length tags.now.remembered }
+    requires room { length tags.now.remembered ≤ vec_capacity codes.old }
     requires small { scale.shift < 64 }
-    requires coded { AreCoded remembered.now stands.now (record {
+    requires coded { AreCoded tags.now.remembered stands.now (record {
       codes = codes.old.items;
       base = scale.base;
       shift = scale.shift;
     }) }
-    ensures coded { AreCoded remembered.now stands.now (record {
+    ensures coded { AreCoded tags.now.remembered stands.now (record {
       codes = codes.new.items;
       base = scale.base;
       shift = scale.shift;
     }) }
     ensures kept { take (length codes.old.items) codes.new.items ≡ codes.old.items }
 {
-    'spots: for spot in codes.len()..remembered.len() {
+    'spots: for spot in codes.len()..tags.len() {
         let code = if stands[spot] {
-            scale.code(remembered[spot].key())
+            scale.code(tags.key(spot))
         } else {
             HOLE
         };
@@ -216,10 +213,10 @@ fn append_codes(codes: &mut Vec<u16>, scale: Scale, remembered: &[Remembered], s
 }
 
 /// A scale by which the greatest of these keys gets one of the greatest codes.
-fn scale_of(remembered: &[Remembered]) -> Scale
+fn scale_of(tags: &TagList) -> Scale
     ensures { result.shift < 64 }
 {
-    let (least, greatest) = least_and_greatest(remembered);
+    let (least, greatest) = least_and_greatest(tags);
     let bits = 64 - greatest.saturating_sub(least).leading_zeros();
     Scale {
         base: least,
@@ -228,11 +225,11 @@ fn scale_of(remembered: &[Remembered]) -> Scale
 }
 
 /// The least of these keys, and the greatest of those that are known.
-fn least_and_greatest(remembered: &[Remembered]) -> (StoredKey, StoredKey) {
+fn least_and_greatest(tags: &TagList) -> (StoredKey, StoredKey) {
     let mut least = UNKNOWN_KEY;
     let mut greatest = 0;
-    'keys: for i in 0..remembered.len() {
-        let key = remembered[i].key();
+    'keys: for i in 0..tags.len() {
+        let key = tags.key(i);
         least = least.min(key);
         greatest = greatest.max(if key == UNKNOWN_KEY { 0 } else { key });
     }

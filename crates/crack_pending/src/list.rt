@@ -12,6 +12,7 @@ use crate::noting::spot_noted;
 use crate::rows::{spot_of, unknowns_without};
 use crack_arena::{Handle, Remembered, UNKNOWN_KEY};
 use crack_row::Row;
+use crack_tags::TagList;
 use std::alloc::Global;
 use std::marker::{Model, PhantomData};
 
@@ -36,8 +37,7 @@ pub type PendingOut = PendingList<Deletions>;
 #[derive(Drop)]
 pub struct PendingList<Kind> {
     /// By spot. A hole keeps its handle and what was remembered of its row; neither is read.
-    pub(crate) handles: Vec<Handle<Row>>,
-    pub(crate) remembered: Vec<Remembered>,
+    pub(crate) tags: TagList,
     pub(crate) codes: Codes,
     /// Whether there is a row, by spot.
     pub(crate) stands: Vec<bool>,
@@ -69,19 +69,18 @@ impl<Kind> Model for PendingList<Kind> {
     ghost Value = { Pending };
 
     ghost view = { λ p. record {
-      handles = kept p.stands.items p.handles.items;
-      remembered = kept p.stands.items p.remembered.items;
-      room = spot_room (length p.handles.items) (vec_capacity p.handles) (vec_capacity p.remembered)
-          (vec_capacity p.stands);
+      handles = kept p.stands.items p.tags.handles;
+      remembered = kept p.stands.items p.tags.remembered;
+      room = spot_room (length p.tags.handles) p.tags.capacity (vec_capacity p.stands);
       covered = length p.spots.items;
     } };
 
     ghost invariant = { λ p.
-        IsSoundList p.handles.items p.remembered.items p.stands.items p.spots.items p.rows p.noted
+        IsSoundList p.tags.handles p.tags.remembered p.stands.items p.spots.items p.rows p.noted
         p.hint_place p.hint_spot
-        × (p.unknowns ≡ times unknown (keys_of (kept p.stands.items p.remembered.items)))
-        × AreCoded p.remembered.items p.stands.items p.codes
-        × AreMembers p.members (kept p.stands.items p.handles.items) (length p.spots.items) };
+        × (p.unknowns ≡ times unknown (keys_of (kept p.stands.items p.tags.remembered)))
+        × AreCoded p.tags.remembered p.stands.items p.codes
+        × AreMembers p.members (kept p.stands.items p.tags.handles) (length p.spots.items) };
 }
 
 impl<Kind> PendingList<Kind> {
@@ -91,8 +90,7 @@ impl<Kind> PendingList<Kind> {
         ensures remembered { (cells : List (Cell Row)) → Remembers cells result.handles result.remembered }
     {
         PendingList {
-            handles: Vec::new(alloc),
-            remembered: Vec::new(alloc),
+            tags: TagList::new(alloc),
             codes: Codes::new(alloc),
             stands: Vec::new(alloc),
             rows: 0,
@@ -112,7 +110,7 @@ impl<Kind> PendingList<Kind> {
         ensures covered { All (λ h. h.slot < self.now.covered) self.now.handles }
         ensures beside { length self.now.remembered ≡ length self.now.handles }
     {
-        let _ = &self.handles;
+        let _ = &self.tags;
     }
 
     /// Appends the handle, whose row is unknown. There must be room. Takes no memory. O(1).
@@ -144,8 +142,7 @@ impl<Kind> PendingList<Kind> {
         ensures remembered { RemembersOneMore handle remembered self.old self.new }
     {
         self.members.put(handle.slot());
-        self.handles.push_reserved(handle);
-        self.remembered.push_reserved(remembered);
+        self.tags.push_reserved(handle, remembered);
         self.stands.push_reserved(true);
         self.rows += 1;
         self.unknowns += (remembered.key() == UNKNOWN_KEY) as usize;
@@ -157,13 +154,13 @@ impl<Kind> PendingList<Kind> {
         requires { place < length self.now.handles }
         ensures { StandsAt self.now.handles place result }
     {
-        self.handles[spot_of(
+        self.tags.handle(spot_of(
             &self.stands,
             self.rows,
             self.hint_place,
             self.hint_spot,
             place,
-        )]
+        ))
     }
 
     /// Makes the next look-up of a place start from this place. So taking k of i rows at rising places takes O(i +
@@ -194,13 +191,13 @@ impl<Kind> PendingList<Kind> {
         if let Some(spot) = spot_noted(
             &mut self.spots,
             &mut self.noted,
-            &self.handles,
+            &self.tags,
             &self.stands,
             handle.slot(),
         ) {
-            self.unknowns = unknowns_without(&self.remembered, self.unknowns, spot)
+            self.unknowns = unknowns_without(&self.tags, self.unknowns, spot)
                 + (remembered.key() == UNKNOWN_KEY) as usize;
-            self.remembered[spot] = remembered;
+            self.tags.remember(spot, remembered);
             self.codes.recode(spot, remembered.key());
         }
     }

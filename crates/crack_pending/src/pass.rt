@@ -1,5 +1,6 @@
 //! Passes over the keys of pending rows.
-ghost use Rattle.std.specs.Prelude.{◌≡◌, ◌≢◌, ◌+◌, ◌<◌, ◌≤◌, ℕ, length, slice_index_or, MatchOption, IsTrue, IsFalse};
+ghost use Rattle.std.specs.Prelude.{◌≡◌, ◌≢◌, ◌+◌, ◌^◌, ◌<◌, ◌≤◌, ℕ, length, slice_index_or, MatchOption, IsTrue};
+ghost use Rattle.std.specs.Prelude.{IsFalse};
 ghost use Rattle.std.specs.Bool.{OnFalse};
 ghost use Rattle.crack_arena.specs.Rows.{unknown};
 ghost use Rattle.crack_arena.specs.Memories.{nothing};
@@ -8,8 +9,9 @@ ghost use Rattle.crack_pending.specs.Inside.{Lies, KeysAreKnown, IsMissed, IsHit
 
 use crate::code_pass::{Window, hit_in_codes, is_hit};
 use crate::codes::{Codes, StoredKey};
-use crack_arena::{Arena, Handle, Remembered, UNKNOWN_KEY};
+use crack_arena::{Arena, UNKNOWN_KEY};
 use crack_row::{KeyRange, Row};
+use crack_tags::TagList;
 
 /// How many keys are read at once, without a branch for each.
 const BLOCK: usize = 16;
@@ -23,67 +25,71 @@ pub(crate) struct Wanted {
     pub(crate) some_unknown: bool,
 }
 
-/// Whether a key of a block lies between `low` and `last`. Compares each key once, without a branch.
-fn any_lies(remembered: &[Remembered], low: StoredKey, last: StoredKey) -> bool
-    requires block { length remembered.now ≡ 16 }
+/// Whether a key of the block at `from` lies between `low` and `last`. Compares each key once, without a branch.
+fn any_lies(tags: &TagList, from: usize, low: StoredKey, last: StoredKey) -> bool
+    requires block { from + 16 ≤ length tags.now.handles }
+    requires few { length tags.now.handles ≤ 2 ^ 32 }
     requires order { low ≤ last }
-    ensures { OnFalse result ((k : ℕ) → k < 16 → ¬ Lies low last (slice_index_or remembered.now k nothing).key) }
+    ensures { OnFalse result ((k : ℕ) → k < 16 → ¬ Lies low last (slice_index_or tags.now.remembered (from + k)
+        nothing).key) }
 {
     let width = last - low;
     let mut any = 0u32;
     'keys: for i in 0..BLOCK {
-        any |= (remembered[i].key().wrapping_sub(low) <= width) as u32;
+        any |= (tags.key(from + i).wrapping_sub(low) <= width) as u32;
     }
     any != 0
 }
 
-/// Whether a key of a block is unknown.
-fn any_unknown(remembered: &[Remembered]) -> bool
-    requires { length remembered.now ≡ 16 }
-    ensures { OnFalse result ((k : ℕ) → k < 16 → (slice_index_or remembered.now k nothing).key ≢ unknown) }
+/// Whether a key of the block at `from` is unknown.
+fn any_unknown(tags: &TagList, from: usize) -> bool
+    requires block { from + 16 ≤ length tags.now.handles }
+    requires few { length tags.now.handles ≤ 2 ^ 32 }
+    ensures { OnFalse result ((k : ℕ) → k < 16 → (slice_index_or tags.now.remembered (from + k)
+        nothing).key ≢ unknown) }
 {
     let mut any = 0u32;
     'keys: for i in 0..BLOCK {
-        any |= (remembered[i].key() == UNKNOWN_KEY) as u32;
+        any |= (tags.key(from + i) == UNKNOWN_KEY) as u32;
     }
     any != 0
 }
 
-/// Whether a row of a block may have its key in the range, judged by the remembered keys alone.
-fn may_hit(remembered: &[Remembered], wanted: Wanted) -> bool
-    requires block { length remembered.now ≡ 16 }
+/// Whether a row of the block at `from` may have its key in the range, judged by the remembered keys alone.
+fn may_hit(tags: &TagList, from: usize, wanted: Wanted) -> bool
+    requires block { from + 16 ≤ length tags.now.handles }
+    requires few { length tags.now.handles ≤ 2 ^ 32 }
     requires order { wanted.low ≤ wanted.last }
     ensures lies { OnFalse result ((k : ℕ) → k < 16 →
-        ¬ Lies wanted.low wanted.last (slice_index_or remembered.now k nothing).key) }
+        ¬ Lies wanted.low wanted.last (slice_index_or tags.now.remembered (from + k) nothing).key) }
     ensures none_unknown { OnFalse result (IsTrue wanted.some_unknown → (k : ℕ) → k < 16 →
-        (slice_index_or remembered.now k nothing).key ≢ unknown) }
+        (slice_index_or tags.now.remembered (from + k) nothing).key ≢ unknown) }
 {
-    if any_lies(remembered, wanted.low, wanted.last) {
+    if any_lies(tags, from, wanted.low, wanted.last) {
         return true;
     }
-    wanted.some_unknown && any_unknown(remembered)
+    wanted.some_unknown && any_unknown(tags, from)
 }
 
 /// The first spot in `from..to` whose row has its key in the range. Looks at each spot.
 fn hit_between(
-    handles: &[Handle<Row>],
-    remembered: &[Remembered],
+    tags: &TagList,
     stands: &[bool],
     from: usize,
     to: usize,
     range: KeyRange,
     arena: &Arena<Row>,
 ) -> Option<usize>
-    requires remembered_beside { length remembered.now ≡ length handles.now }
-    requires stands { length stands.now ≡ length handles.now }
-    requires within { to ≤ length handles.now }
-    requires known { KnowRows arena.now.cells handles.now remembered.now stands.now }
+    requires remembered_beside { length tags.now.remembered ≡ length tags.now.handles }
+    requires stands { length stands.now ≡ length tags.now.handles }
+    requires within { to ≤ length tags.now.handles }
+    requires known { KnowRows arena.now.cells tags.now.handles tags.now.remembered stands.now }
     ensures { MatchOption result
-        (IsMissed range arena.now.cells handles.now stands.now from to)
-        (λ spot. IsHit range arena.now.cells handles.now stands.now from to spot) }
+        (IsMissed range arena.now.cells tags.now.handles stands.now from to)
+        (λ spot. IsHit range arena.now.cells tags.now.handles stands.now from to spot) }
 {
     'spots: for spot in from..to {
-        if stands[spot] && range.contains(remembered[spot].key_of(handles[spot], arena)) {
+        if stands[spot] && range.contains(tags.memory(spot).key_of(tags.handle(spot), arena)) {
             return Some(spot);
         }
     }
@@ -93,85 +99,68 @@ fn hit_between(
 /// The first spot of the block at `from` whose row has its key in the range. Looks at each spot only if the
 /// remembered keys don't rule out the whole block.
 fn hit_in_block(
-    handles: &[Handle<Row>],
-    remembered: &[Remembered],
+    tags: &TagList,
     stands: &[bool],
     from: usize,
     range: KeyRange,
     wanted: Wanted,
     arena: &Arena<Row>,
 ) -> Option<usize>
-    requires remembered_beside { length remembered.now ≡ length handles.now }
-    requires stands { length stands.now ≡ length handles.now }
-    requires within { from + 16 ≤ length handles.now }
-    requires known { KnowRows arena.now.cells handles.now remembered.now stands.now }
-    requires all_known { IsFalse wanted.some_unknown → KeysAreKnown remembered.now stands.now }
+    requires remembered_beside { length tags.now.remembered ≡ length tags.now.handles }
+    requires stands { length stands.now ≡ length tags.now.handles }
+    requires within { from + 16 ≤ length tags.now.handles }
+    requires few { length tags.now.handles ≤ 2 ^ 32 }
+    requires known { KnowRows arena.now.cells tags.now.handles tags.now.remembered stands.now }
+    requires all_known { IsFalse wanted.some_unknown → KeysAreKnown tags.now.remembered stands.now }
     requires low { range.low ≡ wanted.low }
     requires last { range.high ≡ wanted.last + 1 }
     requires order { wanted.low ≤ wanted.last }
     ensures { MatchOption result
-        (IsMissed range arena.now.cells handles.now stands.now from (from + 16))
-        (λ spot. IsHit range arena.now.cells handles.now stands.now from (from + 16) spot) }
+        (IsMissed range arena.now.cells tags.now.handles stands.now from (from + 16))
+        (λ spot. IsHit range arena.now.cells tags.now.handles stands.now from (from + 16) spot) }
 {
-    if !may_hit(&remembered[from..from + BLOCK], wanted) {
+    if !may_hit(tags, from, wanted) {
         return None;
     }
-    hit_between(
-        handles,
-        remembered,
-        stands,
-        from,
-        from + BLOCK,
-        range,
-        arena,
-    )
+    hit_between(tags, stands, from, from + BLOCK, range, arena)
 }
 
 /// The first spot at or after `from` whose row has its key in a range that isn't empty.
 fn hit_in_blocks(
-    handles: &[Handle<Row>],
-    remembered: &[Remembered],
+    tags: &TagList,
     stands: &[bool],
     from: usize,
     range: KeyRange,
     wanted: Wanted,
     arena: &Arena<Row>,
 ) -> Option<usize>
-    requires remembered_beside { length remembered.now ≡ length handles.now }
-    requires stands { length stands.now ≡ length handles.now }
-    requires within { from ≤ length handles.now }
-    requires known { KnowRows arena.now.cells handles.now remembered.now stands.now }
-    requires all_known { IsFalse wanted.some_unknown → KeysAreKnown remembered.now stands.now }
+    requires remembered_beside { length tags.now.remembered ≡ length tags.now.handles }
+    requires stands { length stands.now ≡ length tags.now.handles }
+    requires within { from ≤ length tags.now.handles }
+    requires few { length tags.now.handles ≤ 2 ^ 32 }
+    requires known { KnowRows arena.now.cells tags.now.handles tags.now.remembered stands.now }
+    requires all_known { IsFalse wanted.some_unknown → KeysAreKnown tags.now.remembered stands.now }
     requires low { range.low ≡ wanted.low }
     requires last { range.high ≡ wanted.last + 1 }
     requires order { wanted.low ≤ wanted.last }
     ensures { MatchOption result
-        (IsMissed range arena.now.cells handles.now stands.now from (length handles.now))
-        (λ spot. IsHit range arena.now.cells handles.now stands.now from (length handles.now) spot) }
+        (IsMissed range arena.now.cells tags.now.handles stands.now from (length tags.now.handles))
+        (λ spot. IsHit range arena.now.cells tags.now.handles stands.now from (length tags.now.handles) spot) }
 {
     let mut spot = from;
-    'far: while BLOCK <= remembered.len() - spot {
-        if let Some(hit) = hit_in_block(handles, remembered, stands, spot, range, wanted, arena) {
+    'far: while BLOCK <= tags.len() - spot {
+        if let Some(hit) = hit_in_block(tags, stands, spot, range, wanted, arena) {
             return Some(hit);
         }
         spot += BLOCK;
     }
-    hit_between(
-        handles,
-        remembered,
-        stands,
-        spot,
-        remembered.len(),
-        range,
-        arena,
-    )
+    hit_between(tags, stands, spot, tags.len(), range, arena)
 }
 
 /// The first spot at or after `from` whose row has its key in the range. Reads codes at the spots that have one,
 /// and keys at the others. Tests keys for being unknown only if `some_unknown`.
 pub(crate) fn first_hit(
-    handles: &[Handle<Row>],
-    remembered: &[Remembered],
+    tags: &TagList,
     stands: &[bool],
     codes: &Codes,
     from: usize,
@@ -179,15 +168,16 @@ pub(crate) fn first_hit(
     arena: &Arena<Row>,
     some_unknown: bool,
 ) -> Option<usize>
-    requires remembered_beside { length remembered.now ≡ length handles.now }
-    requires stands { length stands.now ≡ length handles.now }
-    requires within { from ≤ length handles.now }
-    requires coded { AreCoded remembered.now stands.now codes.now }
-    requires known { KnowRows arena.now.cells handles.now remembered.now stands.now }
-    requires all_known { IsFalse some_unknown → KeysAreKnown remembered.now stands.now }
+    requires remembered_beside { length tags.now.remembered ≡ length tags.now.handles }
+    requires stands { length stands.now ≡ length tags.now.handles }
+    requires within { from ≤ length tags.now.handles }
+    requires few { length tags.now.handles ≤ 2 ^ 32 }
+    requires coded { AreCoded tags.now.remembered stands.now codes.now }
+    requires known { KnowRows arena.now.cells tags.now.handles tags.now.remembered stands.now }
+    requires all_known { IsFalse some_unknown → KeysAreKnown tags.now.remembered stands.now }
     ensures { MatchOption result
-        (IsMissed range arena.now.cells handles.now stands.now from (length handles.now))
-        (λ spot. IsHit range arena.now.cells handles.now stands.now from (length handles.now) spot) }
+        (IsMissed range arena.now.cells tags.now.handles stands.now from (length tags.now.handles))
+        (λ spot. IsHit range arena.now.cells tags.now.handles stands.now from (length tags.now.handles) spot) }
 {
     let Some((first, last)) = range.first_and_last() else {
         return None;
@@ -199,22 +189,19 @@ pub(crate) fn first_hit(
     };
     let coded = codes.len();
     if coded <= from {
-        return hit_in_blocks(handles, remembered, stands, from, range, wanted, arena);
+        return hit_in_blocks(tags, stands, from, range, wanted, arena);
     }
     let window = Window::of(wanted, codes, range);
-    match hit_in_codes(
-        handles, remembered, stands, codes, from, range, window, arena,
-    ) {
+    match hit_in_codes(tags, stands, codes, from, range, window, arena) {
         Some(hit) => Some(hit),
-        None => hit_in_blocks(handles, remembered, stands, coded, range, wanted, arena),
+        None => hit_in_blocks(tags, stands, coded, range, wanted, arena),
     }
 }
 
 /// Does what `first_hit` does, but looks ahead in the codes if all keys are known. So hits that are searched for
 /// one after another take one pass.
 pub(crate) fn next_hit(
-    handles: &[Handle<Row>],
-    remembered: &[Remembered],
+    tags: &TagList,
     stands: &[bool],
     codes: &mut Codes,
     from: usize,
@@ -222,31 +209,23 @@ pub(crate) fn next_hit(
     arena: &Arena<Row>,
     some_unknown: bool,
 ) -> Option<usize>
-    requires remembered_beside { length remembered.now ≡ length handles.now }
-    requires stands { length stands.now ≡ length handles.now }
-    requires within { from ≤ length handles.now }
-    requires coded { AreCoded remembered.now stands.now codes.old }
-    requires known { KnowRows arena.now.cells handles.now remembered.now stands.now }
-    requires all_known { IsFalse some_unknown → KeysAreKnown remembered.now stands.now }
+    requires remembered_beside { length tags.now.remembered ≡ length tags.now.handles }
+    requires stands { length stands.now ≡ length tags.now.handles }
+    requires within { from ≤ length tags.now.handles }
+    requires few { length tags.now.handles ≤ 2 ^ 32 }
+    requires coded { AreCoded tags.now.remembered stands.now codes.old }
+    requires known { KnowRows arena.now.cells tags.now.handles tags.now.remembered stands.now }
+    requires all_known { IsFalse some_unknown → KeysAreKnown tags.now.remembered stands.now }
     ensures hit { MatchOption result
-        (IsMissed range arena.now.cells handles.now stands.now from (length handles.now))
-        (λ spot. IsHit range arena.now.cells handles.now stands.now from (length handles.now) spot) }
+        (IsMissed range arena.now.cells tags.now.handles stands.now from (length tags.now.handles))
+        (λ spot. IsHit range arena.now.cells tags.now.handles stands.now from (length tags.now.handles) spot) }
     ensures same { codes.new ≡ codes.old }
 {
     let Some((first, last)) = range.first_and_last() else {
         return None;
     };
     if some_unknown || codes.len() <= from {
-        return first_hit(
-            handles,
-            remembered,
-            stands,
-            codes,
-            from,
-            range,
-            arena,
-            some_unknown,
-        );
+        return first_hit(tags, stands, codes, from, range, arena, some_unknown);
     }
     let wanted = Wanted {
         low: first.number(),
@@ -255,21 +234,8 @@ pub(crate) fn next_hit(
     };
     let window = Window::of(wanted, codes, range);
     let near = codes.seek(window.first, window.last, from);
-    if near < codes.len()
-        && is_hit(
-            handles, remembered, stands, codes, near, range, window, arena,
-        )
-    {
+    if near < codes.len() && is_hit(tags, stands, codes, near, range, window, arena) {
         return Some(near);
     }
-    first_hit(
-        handles,
-        remembered,
-        stands,
-        codes,
-        near,
-        range,
-        arena,
-        some_unknown,
-    )
+    first_hit(tags, stands, codes, near, range, arena, some_unknown)
 }

@@ -1,8 +1,9 @@
 //! Removal of pending rows.
-ghost use Rattle.std.specs.Prelude.{◌≡◌, ◌+◌, ◌<◌, ◌≤◌, ◌↔◌, [], ◌++◌, ℕ, length, drop, vec_len, vec_capacity};
+ghost use Rattle.std.specs.Prelude.{◌≡◌, ◌+◌, ◌^◌, ◌<◌, ◌≤◌, ◌↔◌, [], ◌++◌, ℕ, length, drop, vec_len, vec_capacity};
 ghost use Rattle.std.specs.List.{remove};
 ghost use Rattle.crack_arena.specs.Arena.{StandsAt, times, slots, place_in};
 ghost use Rattle.crack_arena.specs.Memories.{Memory, Remembers};
+ghost use Rattle.crack_tags.specs.Tags.{unknown_in};
 ghost use Rattle.crack_pending.specs.Keeps.{Has};
 ghost use Rattle.crack_pending.specs.Pending.{StillRemembersRows, rows_inside, rows_outside};
 
@@ -14,6 +15,7 @@ use crate::rows::{hint_without, spot_of, unknowns_without};
 use crate::taking::take_hits;
 use crack_arena::{Arena, Handle, Remembered};
 use crack_row::{KeyRange, Row};
+use crack_tags::TagList;
 
 impl<Kind> PendingList<Kind> {
     /// Removes the handle at the place, and returns it. Takes no memory, and keeps the room. Taking k of i rows at
@@ -34,12 +36,12 @@ impl<Kind> PendingList<Kind> {
             self.hint_spot,
             place,
         );
-        let handle = self.handles[spot];
+        let handle = self.tags.handle(spot);
         self.members.strike(handle.slot());
         self.stands[spot] = false;
         self.codes.leave_hole(spot);
         self.rows -= 1;
-        self.unknowns = unknowns_without(&self.remembered, self.unknowns, spot);
+        self.unknowns = unknowns_without(&self.tags, self.unknowns, spot);
         self.hint_place = place;
         self.hint_spot = spot;
         self.close_up_if_sparse();
@@ -60,7 +62,7 @@ impl<Kind> PendingList<Kind> {
         let Some(spot) = spot_noted(
             &mut self.spots,
             &mut self.noted,
-            &self.handles,
+            &self.tags,
             &self.stands,
             slot,
         ) else {
@@ -71,7 +73,7 @@ impl<Kind> PendingList<Kind> {
         self.stands[spot] = false;
         self.codes.leave_hole(spot);
         self.rows -= 1;
-        self.unknowns = unknowns_without(&self.remembered, self.unknowns, spot);
+        self.unknowns = unknowns_without(&self.tags, self.unknowns, spot);
         self.close_up_if_sparse();
     }
 
@@ -98,11 +100,10 @@ impl<Kind> PendingList<Kind> {
         ensures room { self.old.room ≤ self.new.room }
         ensures covered { self.new.covered ≡ self.old.covered }
     {
-        self.codes.catch_up_if_many(&self.remembered, &self.stands);
+        self.codes.catch_up_if_many(&self.tags, &self.stands);
         let from = taken.len();
         let left = take_hits(
-            &self.handles,
-            &self.remembered,
+            &self.tags,
             &mut self.stands,
             &mut self.codes,
             self.unknowns,
@@ -126,15 +127,9 @@ impl<Kind> PendingList<Kind> {
         ensures room { self.old.room ≤ self.new.room }
         ensures covered { self.new.covered ≡ self.old.covered }
     {
-        close_up(
-            &mut self.handles,
-            &mut self.remembered,
-            &mut self.stands,
-            self.rows,
-        );
-        strike_from(&mut self.members, &self.handles, 0);
-        self.handles.clear();
-        self.remembered.clear();
+        close_up(&mut self.tags, &mut self.stands, self.rows);
+        strike_all(&mut self.members, &self.tags);
+        self.tags.truncate(0);
         self.codes.clear();
         self.stands.clear();
         self.rows = 0;
@@ -142,6 +137,32 @@ impl<Kind> PendingList<Kind> {
         self.noted = 0;
         self.hint_place = 0;
         self.hint_spot = 0;
+    }
+
+    /// Hands all rows over, in order of arrival, and keeps none: the handles, each with what is remembered of its
+    /// row, and the number of rows that are unknown. The memory of the rows goes with them, so no room is kept. Takes
+    /// no memory. O(1) for each 64 cells that may have a handle in the list, and O(spots) if there are holes.
+    pub fn hand_over(&mut self) -> (TagList, usize)
+        ensures handles { result.0.handles ≡ self.old.handles }
+        ensures remembered { result.0.remembered ≡ self.old.remembered }
+        ensures unknowns { result.1 ≡ unknown_in self.old.remembered }
+        ensures few { length self.old.handles ≤ 2 ^ 32 }
+        ensures left { self.new.handles ≡ [] }
+        ensures keys { self.new.remembered ≡ [] }
+        ensures covered { self.new.covered ≡ self.old.covered }
+    {
+        close_up(&mut self.tags, &mut self.stands, self.rows);
+        let rows = self.tags.take();
+        let unknowns = self.unknowns;
+        self.members.clear();
+        self.codes.clear();
+        self.stands.clear();
+        self.rows = 0;
+        self.unknowns = 0;
+        self.noted = 0;
+        self.hint_place = 0;
+        self.hint_spot = 0;
+        (rows, unknowns)
     }
 }
 
@@ -154,5 +175,17 @@ fn strike_from(members: &mut BitSet, handles: &[Handle<Row>], from: usize)
 {
     'handles: for place in from..handles.len() {
         members.strike(handles[place].slot());
+    }
+}
+
+/// Removes from the set the cells of all handles. O(1) for each.
+fn strike_all(members: &mut BitSet, tags: &TagList)
+    requires { (slot : ℕ) → 0 < times slot (slots tags.now.handles) → Has members.old slot }
+    ensures struck { (slot : ℕ) → Has members.new slot ↔ (Has members.old slot ×
+        (times slot (slots tags.now.handles) ≡ 0)) }
+    ensures long { length members.new ≡ length members.old }
+{
+    'tags: for spot in 0..tags.len() {
+        members.strike(tags.handle(spot).slot());
     }
 }

@@ -7,8 +7,8 @@ ghost use Rattle.crack_pending.specs.Pending.{StillRemembersRows};
 use crate::bits::BitSet;
 use crate::closing::close_up;
 use crate::list::PendingList;
-use crack_arena::{Handle, Remembered};
-use crack_row::{Refusal, Row};
+use crack_row::Refusal;
+use crack_tags::TagList;
 
 /// A spot's number has 32 bits.
 const MOST_SPOTS: usize = 4294967296;
@@ -26,12 +26,8 @@ impl<Kind> PendingList<Kind> {
         ensures { result ≡ self.now.room }
     {
         MOST_SPOTS
-            .min(
-                self.handles
-                    .capacity()
-                    .min(self.remembered.capacity().min(self.stands.capacity())),
-            )
-            .saturating_sub(self.handles.len())
+            .min(self.tags.capacity().min(self.stands.capacity()))
+            .saturating_sub(self.tags.len())
     }
 
     /// Makes room for this many pushes. Amortised O(1) for each push. Refused with `OutOfMemory` if no memory is
@@ -63,23 +59,13 @@ impl<Kind> PendingList<Kind> {
         ensures err { IfErr result (λ e. e ≡ Refusal.OutOfMemory) }
         ensures remembered { StillRemembersRows self.old self.new }
     {
-        close_up(
-            &mut self.handles,
-            &mut self.remembered,
-            &mut self.stands,
-            self.rows,
-        );
+        close_up(&mut self.tags, &mut self.stands, self.rows);
         self.codes.clear();
         self.noted = 0;
         self.hint_place = 0;
         self.hint_spot = 0;
         let wanted = additional.max(self.rows / 2).max(FIRST_SPOTS);
-        grow(
-            &mut self.handles,
-            &mut self.remembered,
-            &mut self.stands,
-            wanted,
-        )
+        grow(&mut self.tags, &mut self.stands, wanted)
     }
 
     /// Closes up all holes, and frees memory that holds no row, except room for half as many rows as there are, and
@@ -92,20 +78,14 @@ impl<Kind> PendingList<Kind> {
         ensures sure { room ≤ self.new.room }
         ensures remembered { StillRemembersRows self.old self.new }
     {
-        close_up(
-            &mut self.handles,
-            &mut self.remembered,
-            &mut self.stands,
-            self.rows,
-        );
+        close_up(&mut self.tags, &mut self.stands, self.rows);
         self.codes.give_back();
         self.noted = 0;
         self.hint_place = 0;
         self.hint_spot = 0;
         let wanted = room.max(self.rows / 2).max(FIRST_SPOTS);
         let spots = self.rows + wanted;
-        self.handles.shrink_to(spots);
-        self.remembered.shrink_to(spots);
+        self.tags.shrink_to(spots);
         self.stands.shrink_to(spots);
     }
 
@@ -147,15 +127,10 @@ impl<Kind> PendingList<Kind> {
         ensures kept { self.old.room ≤ self.new.room }
         ensures remembered { StillRemembersRows self.old self.new }
     {
-        if self.rows == self.handles.len() {
+        if self.rows == self.tags.len() {
             return;
         }
-        close_up(
-            &mut self.handles,
-            &mut self.remembered,
-            &mut self.stands,
-            self.rows,
-        );
+        close_up(&mut self.tags, &mut self.stands, self.rows);
         self.codes.clear();
         self.noted = 0;
         self.hint_place = 0;
@@ -167,7 +142,7 @@ impl<Kind> PendingList<Kind> {
         ensures same { self.new ≡ record self.old { room = self.new.room } }
         ensures kept { self.old.room ≤ self.new.room }
     {
-        if self.handles.len() - self.rows < self.rows {
+        if self.tags.len() - self.rows < self.rows {
             return;
         }
         self.close_up();
@@ -175,31 +150,23 @@ impl<Kind> PendingList<Kind> {
 }
 
 /// Makes room for this many more spots.
-fn grow(
-    handles: &mut Vec<Handle<Row>>,
-    remembered: &mut Vec<Remembered>,
-    stands: &mut Vec<bool>,
-    additional: usize,
-) -> Result<(), Refusal>
-    ensures handles { handles.new.items ≡ handles.old.items }
-    ensures remembered { remembered.new.items ≡ remembered.old.items }
+fn grow(tags: &mut TagList, stands: &mut Vec<bool>, additional: usize) -> Result<(), Refusal>
+    ensures handles { tags.new.handles ≡ tags.old.handles }
+    ensures remembered { tags.new.remembered ≡ tags.old.remembered }
     ensures stands { stands.new.items ≡ stands.old.items }
-    ensures handle_room { OnOk result (vec_len handles.old + additional ≤ vec_capacity handles.new) }
-    ensures remembered_room { OnOk result (vec_len remembered.old + additional ≤ vec_capacity remembered.new) }
+    ensures tag_room { OnOk result (length tags.old.handles + additional ≤ tags.new.capacity) }
     ensures stand_room { OnOk result (vec_len stands.old + additional ≤ vec_capacity stands.new) }
-    ensures handle_kept { vec_capacity handles.old ≤ vec_capacity handles.new }
-    ensures remembered_kept { vec_capacity remembered.old ≤ vec_capacity remembered.new }
+    ensures tag_kept { tags.old.capacity ≤ tags.new.capacity }
     ensures stand_kept { vec_capacity stands.old ≤ vec_capacity stands.new }
     ensures err { IfErr result (λ e. e ≡ Refusal.OutOfMemory) }
 {
-    handles.reserve(additional)?;
-    remembered.reserve(additional)?;
+    tags.reserve(additional)?;
     stands.reserve(additional)?;
     Ok(())
 }
 
-/// Appends zeros until `spots` has at least `cells` numbers and its memory is full. Before that makes room for a
-/// bit for each number.
+/// Appends zeros until `spots` has at least `cells` numbers, and up to `MORE_PLACES` further ones for which there is
+/// memory. Before that makes room for a bit for each number.
 #[inline(never)]
 fn lengthen(spots: &mut Vec<u32>, members: &mut BitSet, cells: usize) -> Result<(), Refusal>
     requires more { vec_len spots.old < cells }
@@ -214,7 +181,8 @@ fn lengthen(spots: &mut Vec<u32>, members: &mut BitSet, cells: usize) -> Result<
 {
     spots.reserve((cells - spots.len()).max(MORE_PLACES))?;
     members.make_places(spots.capacity())?;
-    'cells: while spots.len() < spots.capacity() {
+    let end = cells.saturating_add(MORE_PLACES).min(spots.capacity());
+    'cells: while spots.len() < end {
         spots.push_reserved(0);
     }
     Ok(())

@@ -6,7 +6,8 @@ ghost use Rattle.crack_arena.specs.Rows.{unknown};
 ghost use Rattle.crack_arena.specs.Memories.{nothing};
 ghost use Rattle.crack_pending.specs.Keeps.{place_at, HasRow};
 
-use crack_arena::{Remembered, UNKNOWN_KEY};
+use crack_arena::UNKNOWN_KEY;
+use crack_tags::TagList;
 
 /// The number of spots counted at a time, in 8 bits.
 const BLOCK: usize = 64;
@@ -164,15 +165,15 @@ pub(crate) fn hint_without(
 }
 
 /// The number of unknown rows, after the row at the spot is removed. If no row is unknown, no key is read.
-pub(crate) fn unknowns_without(remembered: &[Remembered], unknowns: usize, spot: usize) -> usize
-    requires within { spot < length remembered.now }
-    requires counted { (slice_index_or remembered.now spot nothing).key ≡ unknown → 0 < unknowns }
-    ensures { result + times unknown ((slice_index_or remembered.now spot nothing).key ∷ []) ≡ unknowns }
+pub(crate) fn unknowns_without(tags: &TagList, unknowns: usize, spot: usize) -> usize
+    requires within { spot < length tags.now.handles }
+    requires counted { (slice_index_or tags.now.remembered spot nothing).key ≡ unknown → 0 < unknowns }
+    ensures { result + times unknown ((slice_index_or tags.now.remembered spot nothing).key ∷ []) ≡ unknowns }
 {
     if unknowns == 0 {
         return 0;
     }
-    if remembered[spot].key() == UNKNOWN_KEY {
+    if tags.key(spot) == UNKNOWN_KEY {
         unknowns - 1
     } else {
         unknowns

@@ -40,8 +40,7 @@ impl<Kind> PendingList<Kind> {
         );
         let some_unknown = self.unknowns > 0;
         match first_hit(
-            &self.handles,
-            &self.remembered,
+            &self.tags,
             &self.stands,
             &self.codes,
             start,
@@ -64,7 +63,7 @@ impl<Kind> PendingList<Kind> {
         if self.rows <= from {
             return None;
         }
-        self.codes.catch_up_if_many(&self.remembered, &self.stands);
+        self.codes.catch_up_if_many(&self.tags, &self.stands);
         let start = spot_before(
             &self.stands,
             self.rows,
@@ -74,8 +73,7 @@ impl<Kind> PendingList<Kind> {
         );
         let some_unknown = self.unknowns > 0;
         match next_hit(
-            &self.handles,
-            &self.remembered,
+            &self.tags,
             &self.stands,
             &mut self.codes,
             start,
@@ -84,7 +82,7 @@ impl<Kind> PendingList<Kind> {
             some_unknown,
         ) {
             Some(spot) => {
-                self.codes.warm(&self.handles, arena);
+                self.codes.warm(&self.tags, arena);
                 self.hint_place = from + rows_between(&self.stands, start, spot);
                 self.hint_spot = spot;
                 Some(self.hint_place)
@@ -100,7 +98,7 @@ impl<Kind> PendingList<Kind> {
     pub fn code_keys(&mut self)
         ensures { self.new ≡ self.old }
     {
-        self.codes.catch_up_if_many(&self.remembered, &self.stands);
+        self.codes.catch_up_if_many(&self.tags, &self.stands);
     }
 
     /// The first place of the handle, or `None` if it isn't in the list. O(1) if there are no holes and the spots
@@ -109,14 +107,14 @@ impl<Kind> PendingList<Kind> {
         ensures { MatchOption result (IsAbsent self.now.handles handle) (IsFirstAt self.now.handles handle) }
     {
         match spot_sought(
-            &self.handles,
+            &self.tags,
             &self.stands,
             &self.spots,
             self.noted,
             handle.slot(),
         ) {
             Some(spot) => {
-                if self.handles[spot].generation() != handle.generation() {
+                if self.tags.handle(spot).generation() != handle.generation() {
                     return None;
                 }
                 Some(place_of_spot(&self.stands, self.rows, spot))

@@ -18,6 +18,7 @@ use crate::pass::{Wanted, next_hit};
 use crate::rows::unknowns_without;
 use crack_arena::{Arena, Handle, Remembered};
 use crack_row::{KeyRange, Row};
+use crack_tags::TagList;
 
 /// The counts of a list after the rows in a range were taken.
 #[derive(Clone, Copy)]
@@ -31,8 +32,7 @@ pub(crate) struct Left {
 /// Leaves a hole at the spot of each row in a range, and appends the handles to `taken`, and what is remembered of
 /// them to `known`, in order. One pass: no row's place is looked up.
 pub(crate) fn take_hits(
-    handles: &[Handle<Row>],
-    remembered: &[Remembered],
+    tags: &TagList,
     stands: &mut Vec<bool>,
     codes: &mut Codes,
     unknowns: usize,
@@ -41,43 +41,40 @@ pub(crate) fn take_hits(
     taken: &mut Vec<Handle<Row>>,
     known: &mut Vec<Remembered>,
 ) -> Left
-    requires remembered_beside { length remembered.now ≡ length handles.now }
-    requires stands { vec_len stands.old ≡ length handles.now }
-    requires few { length handles.now ≤ 2 ^ 32 }
-    requires coded { AreCoded remembered.now stands.old.items codes.old }
-    requires known { Remembers arena.now.cells (kept stands.old.items handles.now)
-        (kept stands.old.items remembered.now) }
-    requires unknowns { unknowns ≡ times unknown (keys_of (kept stands.old.items remembered.now)) }
-    requires room { vec_len taken.old + length (rows_inside arena.now.cells range (kept stands.old.items handles.now))
-        ≤ vec_capacity taken.old }
+    requires remembered_beside { length tags.now.remembered ≡ length tags.now.handles }
+    requires stands { vec_len stands.old ≡ length tags.now.handles }
+    requires few { length tags.now.handles ≤ 2 ^ 32 }
+    requires coded { AreCoded tags.now.remembered stands.old.items codes.old }
+    requires known { Remembers arena.now.cells (kept stands.old.items tags.now.handles)
+        (kept stands.old.items tags.now.remembered) }
+    requires unknowns { unknowns ≡ times unknown (keys_of (kept stands.old.items tags.now.remembered)) }
+    requires room { vec_len taken.old + length (rows_inside arena.now.cells range
+        (kept stands.old.items tags.now.handles)) ≤ vec_capacity taken.old }
     requires remembered { Remembers arena.now.cells taken.old.items known.old.items }
     requires known_room { vec_len known.old + length (rows_inside arena.now.cells range
-        (kept stands.old.items handles.now)) ≤ vec_capacity known.old }
+        (kept stands.old.items tags.now.handles)) ≤ vec_capacity known.old }
     ensures taken { taken.new.items ≡ taken.old.items ++ rows_inside arena.now.cells range
-        (kept stands.old.items handles.now) }
-    ensures left { kept stands.new.items handles.now ≡ rows_outside arena.now.cells range
-        (kept stands.old.items handles.now) }
-    ensures known { Remembers arena.now.cells (kept stands.new.items handles.now)
-        (kept stands.new.items remembered.now) }
+        (kept stands.old.items tags.now.handles) }
+    ensures left { kept stands.new.items tags.now.handles ≡ rows_outside arena.now.cells range
+        (kept stands.old.items tags.now.handles) }
+    ensures known { Remembers arena.now.cells (kept stands.new.items tags.now.handles)
+        (kept stands.new.items tags.now.remembered) }
     ensures remembered { Remembers arena.now.cells taken.new.items known.new.items }
-    ensures unknowns { result.unknowns ≡ times unknown (keys_of (kept stands.new.items remembered.now)) }
-    ensures coded { AreCoded remembered.now stands.new.items codes.new }
+    ensures unknowns { result.unknowns ≡ times unknown (keys_of (kept stands.new.items tags.now.remembered)) }
+    ensures coded { AreCoded tags.now.remembered stands.new.items codes.new }
     ensures stood { (spot : ℕ) → HasRow stands.new.items spot → HasRow stands.old.items spot }
     ensures long { length stands.new.items ≡ length stands.old.items }
     ensures capacity { vec_capacity stands.new ≡ vec_capacity stands.old }
     ensures counted { place_at stands.new.items (length stands.new.items) + result.taken ≡
         place_at stands.old.items (length stands.old.items) }
 {
-    let (mut start, count) = take_coded(
-        handles, remembered, stands, codes, unknowns, range, arena, taken, known,
-    );
+    let (mut start, count) = take_coded(tags, stands, codes, unknowns, range, arena, taken, known);
     let mut left = Left {
         taken: count,
         unknowns,
     };
     'hits: while let Some(spot) = next_hit(
-        handles,
-        remembered,
+        tags,
         stands,
         codes,
         start,
@@ -87,9 +84,9 @@ pub(crate) fn take_hits(
     ) {
         stands[spot] = false;
         codes.leave_hole(spot);
-        taken.push_reserved(handles[spot]);
-        known.push_reserved(remembered[spot]);
-        left.unknowns = unknowns_without(remembered, left.unknowns, spot);
+        taken.push_reserved(tags.handle(spot));
+        known.push_reserved(tags.memory(spot));
+        left.unknowns = unknowns_without(tags, left.unknowns, spot);
         left.taken += 1;
         start = spot + 1;
     }
@@ -100,8 +97,7 @@ pub(crate) fn take_hits(
 /// spot up to which it did so, and how many rows it took. It finds many candidates before it takes the first row,
 /// so that no row waits for the memory of another. Takes no rows if no memory is found for candidates.
 fn take_coded(
-    handles: &[Handle<Row>],
-    remembered: &[Remembered],
+    tags: &TagList,
     stands: &mut Vec<bool>,
     codes: &mut Codes,
     unknowns: usize,
@@ -110,20 +106,20 @@ fn take_coded(
     taken: &mut Vec<Handle<Row>>,
     known: &mut Vec<Remembered>,
 ) -> (usize, usize)
-    requires remembered_beside { length remembered.now ≡ length handles.now }
-    requires stands { vec_len stands.old ≡ length handles.now }
-    requires few { length handles.now ≤ 2 ^ 32 }
-    requires coded { AreCoded remembered.now stands.old.items codes.old }
-    requires known { Remembers arena.now.cells (kept stands.old.items handles.now)
-        (kept stands.old.items remembered.now) }
-    requires unknowns { unknowns ≡ times unknown (keys_of (kept stands.old.items remembered.now)) }
-    requires room { vec_len taken.old + length (rows_inside arena.now.cells range (kept stands.old.items handles.now))
-        ≤ vec_capacity taken.old }
+    requires remembered_beside { length tags.now.remembered ≡ length tags.now.handles }
+    requires stands { vec_len stands.old ≡ length tags.now.handles }
+    requires few { length tags.now.handles ≤ 2 ^ 32 }
+    requires coded { AreCoded tags.now.remembered stands.old.items codes.old }
+    requires known { Remembers arena.now.cells (kept stands.old.items tags.now.handles)
+        (kept stands.old.items tags.now.remembered) }
+    requires unknowns { unknowns ≡ times unknown (keys_of (kept stands.old.items tags.now.remembered)) }
+    requires room { vec_len taken.old + length (rows_inside arena.now.cells range
+        (kept stands.old.items tags.now.handles)) ≤ vec_capacity taken.old }
     requires remembered { Remembers arena.now.cells taken.old.items known.old.items }
     requires known_room { vec_len known.old + length (rows_inside arena.now.cells range
-        (kept stands.old.items handles.now)) ≤ vec_capacity known.old }
-    ensures passed { IsPassed arena.now.cells range handles.now remembered.now stands.old.items stands.new.items
-        codes.new taken.old.items taken.new.items known.new.items result.0 result.1 unknowns }
+        (kept stands.old.items tags.now.handles)) ≤ vec_capacity known.old }
+    ensures passed { IsPassed arena.now.cells range tags.now.handles tags.now.remembered stands.old.items
+        stands.new.items codes.new taken.old.items taken.new.items known.new.items result.0 result.1 unknowns }
     ensures capacity { vec_capacity stands.new ≡ vec_capacity stands.old }
     ensures room { vec_capacity taken.new ≡ vec_capacity taken.old }
     ensures known_room { vec_capacity known.new ≡ vec_capacity known.old }
@@ -144,8 +140,7 @@ fn take_coded(
         return (0, 0);
     };
     take_blocks(
-        handles,
-        remembered,
+        tags,
         stands,
         codes,
         &mut candidates,
@@ -160,8 +155,7 @@ fn take_coded(
 /// Takes the rows in a range at the spots that have a code, one batch of candidates at a time. Returns the spot up
 /// to which it did so, and how many rows it took.
 fn take_blocks(
-    handles: &[Handle<Row>],
-    remembered: &[Remembered],
+    tags: &TagList,
     stands: &mut Vec<bool>,
     codes: &mut Codes,
     candidates: &mut Vec<usize>,
@@ -171,22 +165,22 @@ fn take_blocks(
     taken: &mut Vec<Handle<Row>>,
     known: &mut Vec<Remembered>,
 ) -> (usize, usize)
-    requires remembered_beside { length remembered.now ≡ length handles.now }
-    requires stands { vec_len stands.old ≡ length handles.now }
-    requires few { length handles.now ≤ 2 ^ 32 }
-    requires coded { AreCoded remembered.now stands.old.items codes.old }
-    requires known { Remembers arena.now.cells (kept stands.old.items handles.now)
-        (kept stands.old.items remembered.now) }
-    requires all_known { times unknown (keys_of (kept stands.old.items remembered.now)) ≡ 0 }
+    requires remembered_beside { length tags.now.remembered ≡ length tags.now.handles }
+    requires stands { vec_len stands.old ≡ length tags.now.handles }
+    requires few { length tags.now.handles ≤ 2 ^ 32 }
+    requires coded { AreCoded tags.now.remembered stands.old.items codes.old }
+    requires known { Remembers arena.now.cells (kept stands.old.items tags.now.handles)
+        (kept stands.old.items tags.now.remembered) }
+    requires all_known { times unknown (keys_of (kept stands.old.items tags.now.remembered)) ≡ 0 }
     requires list { 1024 ≤ vec_capacity candidates.old }
     requires window { IsWindow codes.old.base codes.old.shift range window.first window.last window.beyond }
-    requires room { vec_len taken.old + length (rows_inside arena.now.cells range (kept stands.old.items handles.now))
-        ≤ vec_capacity taken.old }
+    requires room { vec_len taken.old + length (rows_inside arena.now.cells range
+        (kept stands.old.items tags.now.handles)) ≤ vec_capacity taken.old }
     requires remembered { Remembers arena.now.cells taken.old.items known.old.items }
     requires known_room { vec_len known.old + length (rows_inside arena.now.cells range
-        (kept stands.old.items handles.now)) ≤ vec_capacity known.old }
-    ensures passed { IsPassed arena.now.cells range handles.now remembered.now stands.old.items stands.new.items
-        codes.new taken.old.items taken.new.items known.new.items result.0 result.1 0 }
+        (kept stands.old.items tags.now.handles)) ≤ vec_capacity known.old }
+    ensures passed { IsPassed arena.now.cells range tags.now.handles tags.now.remembered stands.old.items
+        stands.new.items codes.new taken.old.items taken.new.items known.new.items result.0 result.1 0 }
     ensures capacity { vec_capacity stands.new ≡ vec_capacity stands.old }
     ensures room { vec_capacity taken.new ≡ vec_capacity taken.old }
     ensures known_room { vec_capacity known.new ≡ vec_capacity known.old }
@@ -197,8 +191,7 @@ fn take_blocks(
         candidates.clear();
         let to = gather(candidates, codes.list(), window.first, window.last, spot);
         count += take_candidates(
-            handles, remembered, stands, codes, candidates, spot, to, range, window, arena, taken,
-            known,
+            tags, stands, codes, candidates, spot, to, range, window, arena, taken, known,
         );
         if to == spot {
             return (spot, count);
@@ -211,8 +204,7 @@ fn take_blocks(
 /// Takes the candidates that are rows in a range, which include all its rows at the spots `from..to`. Returns how
 /// many rows it took.
 fn take_candidates(
-    handles: &[Handle<Row>],
-    remembered: &[Remembered],
+    tags: &TagList,
     stands: &mut Vec<bool>,
     codes: &mut Codes,
     candidates: &[usize],
@@ -224,23 +216,23 @@ fn take_candidates(
     taken: &mut Vec<Handle<Row>>,
     known: &mut Vec<Remembered>,
 ) -> usize
-    requires remembered_beside { length remembered.now ≡ length handles.now }
-    requires stands { vec_len stands.old ≡ length handles.now }
-    requires few { length handles.now ≤ 2 ^ 32 }
-    requires coded { AreCoded remembered.now stands.old.items codes.old }
-    requires known { Remembers arena.now.cells (kept stands.old.items handles.now)
-        (kept stands.old.items remembered.now) }
-    requires all_known { times unknown (keys_of (kept stands.old.items remembered.now)) ≡ 0 }
+    requires remembered_beside { length tags.now.remembered ≡ length tags.now.handles }
+    requires stands { vec_len stands.old ≡ length tags.now.handles }
+    requires few { length tags.now.handles ≤ 2 ^ 32 }
+    requires coded { AreCoded tags.now.remembered stands.old.items codes.old }
+    requires known { Remembers arena.now.cells (kept stands.old.items tags.now.handles)
+        (kept stands.old.items tags.now.remembered) }
+    requires all_known { times unknown (keys_of (kept stands.old.items tags.now.remembered)) ≡ 0 }
     requires window { IsWindow codes.old.base codes.old.shift range window.first window.last window.beyond }
     requires ahead { AreCandidates codes.old.codes window.first window.last from to candidates.now 0 }
-    requires missed { IsMissed range arena.now.cells handles.now stands.old.items 0 from }
-    requires room { vec_len taken.old + length (rows_inside arena.now.cells range (kept stands.old.items handles.now))
-        ≤ vec_capacity taken.old }
+    requires missed { IsMissed range arena.now.cells tags.now.handles stands.old.items 0 from }
+    requires room { vec_len taken.old + length (rows_inside arena.now.cells range
+        (kept stands.old.items tags.now.handles)) ≤ vec_capacity taken.old }
     requires remembered { Remembers arena.now.cells taken.old.items known.old.items }
     requires known_room { vec_len known.old + length (rows_inside arena.now.cells range
-        (kept stands.old.items handles.now)) ≤ vec_capacity known.old }
-    ensures passed { IsPassed arena.now.cells range handles.now remembered.now stands.old.items stands.new.items
-        codes.new taken.old.items taken.new.items known.new.items to result 0 }
+        (kept stands.old.items tags.now.handles)) ≤ vec_capacity known.old }
+    ensures passed { IsPassed arena.now.cells range tags.now.handles tags.now.remembered stands.old.items
+        stands.new.items codes.new taken.old.items taken.new.items known.new.items to result 0 }
     ensures base { codes.new.base ≡ codes.old.base }
     ensures shift { codes.new.shift ≡ codes.old.shift }
     ensures long { length codes.new.codes ≡ length codes.old.codes }
@@ -251,13 +243,11 @@ fn take_candidates(
     let mut count = 0;
     'candidates: for k in 0..candidates.len() {
         let candidate = candidates[k];
-        if is_hit(
-            handles, remembered, stands, codes, candidate, range, window, arena,
-        ) {
+        if is_hit(tags, stands, codes, candidate, range, window, arena) {
             stands[candidate] = false;
             codes.leave_hole(candidate);
-            taken.push_reserved(handles[candidate]);
-            known.push_reserved(remembered[candidate]);
+            taken.push_reserved(tags.handle(candidate));
+            known.push_reserved(tags.memory(candidate));
             count += 1;
         }
     }

@@ -20,8 +20,9 @@ impl Store {
     }
 
     /// Appends all pending insertions to the column, in order of arrival. Without bounds, this has the result of
-    /// carrying them one after the other. Makes room for all of them at once. O(pending insertions). Refused with
-    /// `OutOfMemory` if no memory is found; then nothing has changed.
+    /// carrying them one after the other. If the column is empty, it takes over their memory, which takes O(1) for
+    /// each 64 cells, and no memory. Otherwise makes room for all of them at once, and takes O(pending insertions).
+    /// Refused with `OutOfMemory` if no memory is found; then nothing has changed.
     pub fn append_all(&mut self) -> Result<(), Refusal>
         requires { self.old.marks ≡ [] }
         ensures ok { OnOk result (SameButRoom (all_appended self.old) self.new) }
@@ -29,6 +30,10 @@ impl Store {
         ensures same { OnErr result (SameButRoom self.old self.new) }
         ensures err { IfErr result (λ e. e ≡ Refusal.OutOfMemory) }
     {
+        if self.inside.column.is_empty() {
+            self.adopt_all();
+            return Ok(());
+        }
         let count = self.inside.pending_in.len();
         self.inside.column.reserve(count)?;
         self.inside.pending_in.close_up();
@@ -41,6 +46,22 @@ impl Store {
         self.inside.pending_in.shrink_if_empty(self.inside.in_room);
         self.inside.tally.put_in = self.inside.tally.put_in.saturating_add(count as u64);
         Ok(())
+    }
+
+    /// Makes the list of all pending insertions the column, which is empty. Takes no memory, and keeps no room for
+    /// pending insertions. O(1) for each 64 cells, and O(pending insertions) if others were removed before.
+    fn adopt_all(&mut self)
+        requires uncracked { self.old.marks ≡ [] }
+        requires empty { self.old.column ≡ [] }
+        ensures after { SameButRoom (all_appended self.old) self.new }
+        ensures live { live_rows self.new ≡ live_rows self.old }
+    {
+        let (rows, unread) = self.inside.pending_in.hand_over();
+        let adopted = rows.len() as u64;
+        self.inside.column.adopt(rows, unread);
+        self.inside.in_room = 0;
+        self.inside.pending_in.shrink_if_empty(0);
+        self.inside.tally.put_in = self.inside.tally.put_in.saturating_add(adopted);
     }
 }
 

@@ -8,6 +8,7 @@ ghost use Rattle.crack_arena.specs.Memories.{Remembers};
 use crate::column::{put_all, row};
 use crate::script::assert_at;
 use crack_arena::{Arena, Handle, Remembered, key_of};
+use crack_column::CrackerColumn;
 use crack_pending::{PendingIn, PendingList, PendingOut};
 use crack_row::{
     Bound, BoundNumber, GREATEST_BOUND, GREATEST_KEY, Key, KeyNumber, KeyRange, PayloadNumber, Row,
@@ -28,6 +29,8 @@ enum Step {
     TakeEach(KeyNumber, BoundNumber),
     /// Takes the rows of a range out at once.
     TakeAll(KeyNumber, BoundNumber),
+    /// Hands all rows over to a column.
+    HandOver,
     /// Makes codes of the keys.
     Code,
     /// Makes the step that follows the removal of a cell's row in this round.
@@ -60,6 +63,16 @@ const GO_AND_COME: &[Step] = &[
     Step::Strike(1),
     Step::Keys(&[GREATEST_KEY]),
     Step::Find(10, GREATEST_BOUND - 1),
+    Step::Push(1, true),
+    Step::Push(0, false),
+    Step::Push(3, true),
+    Step::Strike(1),
+    Step::Keys(&[GREATEST_KEY, 40, 20]),
+    Step::HandOver,
+    Step::Keys(&[]),
+    Step::Push(1, true),
+    Step::Push(2, false),
+    Step::Keys(&[10, GREATEST_KEY]),
 ];
 
 /// The rows of ranges, some of which overlap, are taken out one after the other.
@@ -301,6 +314,28 @@ fn assert_taken<Kind>(
     assert!(rt; first_from(keys, low, high, 0).is_none());
 }
 
+/// Hands all rows over to a column, which then has the keys of the list, in order. None is pending any more.
+fn hand_over<Kind>(
+    rt: &impl Abort,
+    arena: &Arena<Row>,
+    pending: &mut PendingList<Kind>,
+    keys: &mut Vec<KeyNumber>,
+)
+    requires { Remembers arena.now.cells pending.old.handles pending.old.remembered }
+    ensures { Remembers arena.now.cells pending.new.handles pending.new.remembered }
+{
+    let mut column = CrackerColumn::new(*keys.allocator());
+    let (rows, unread) = pending.hand_over();
+    column.adopt(rows, unread);
+    assert!(rt; column.len() == keys.len());
+    'rows: for place in 0..keys.len() {
+        assert!(rt; column.key_at(place, arena).number() == keys[place]);
+    }
+    assert!(rt; pending.is_empty());
+    keys.clear();
+    drop(column);
+}
+
 /// The step after a row was removed in this round, with this many rows left: now and then another row is taken, or
 /// the removed row is added again.
 fn after_strike(round: usize, cell: u32, rows: usize) -> Step {
@@ -338,6 +373,7 @@ fn make<Kind>(
         Step::Strike(cell) => strike(rt, arena, pending, keys, row(first_row, cell)),
         Step::TakeEach(low, high) => take_each(rt, arena, pending, keys, low, high),
         Step::TakeAll(low, high) => take_all(rt, arena, pending, keys, low, high),
+        Step::HandOver => hand_over(rt, arena, pending, keys),
         Step::Find(low, high) => assert_found(rt, arena, pending, keys, low, high),
         Step::Keys(wanted) => assert!(rt; keys.as_slice() == wanted),
         _ => pending.code_keys(),

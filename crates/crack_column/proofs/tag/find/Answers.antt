@@ -2,7 +2,7 @@ use Rattle.std.proofs.Common.{◌≡◌, ◌∙◌, get_or, map, false, sym, ap,
 use Rattle.std.proofs.lemmas.List.{get_or-map, get_or_default}
 use Rattle.std.proofs.lemmas.Bool.{cases_eq, false≢true}
 use Rattle.crack_arena.specs.Arena.{same_handle}
-use Rattle.crack_column.specs.declared.tag.Label.{Label}
+use Rattle.crack_tags.specs.declared.label.Label.{Label}
 use Rattle.crack_column.specs.Inside.{label_handle}
 use Rattle.crack_column.proofs.LabelLaws.{no_label}
 use Rattle.crack_column.proofs.Passes.{same_handle-refl}

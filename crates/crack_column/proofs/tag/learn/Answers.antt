@@ -2,7 +2,7 @@ use Rattle.std.proofs.Common.{◌≡◌, arith, ap, sym, ◌∙◌, refl, inl, i
 use Rattle.std.proofs.lemmas.List.{get_or_default}
 use Rattle.std.proofs.lemmas.Bool.{cases_eq, eq-eqb, ne_eqb}
 use Rattle.crack_arena.specs.Rows.{unknown}
-use Rattle.crack_column.specs.declared.tag.Label.{Label}
+use Rattle.crack_tags.specs.declared.label.Label.{Label}
 use Rattle.crack_column.specs.declared.tag.Tag.{Tag}
 use Rattle.crack_arena.specs.Memories.{memory_at}
 use Rattle.crack_column.specs.Places.{tag_handle}

@@ -14,16 +14,16 @@ returns-then-rows-len-clause-closed c =
     let long : length stands ≡ c.args.rows = omega (arith, c.if-rows-len.true, c.len.ensures) in
     let full : place_at stands (length stands) ≡ length stands = sym (rw same at c.requires.rows) ∙ sym long in
     record {
-      handles_are = sym (kept-full stands c.args.handles.now.items (omega (arith, c.requires.stands)) full);
-      remembered_are = sym (kept-full stands c.args.remembered.now.items (omega (arith, c.requires.stands, c.requires.remembered)) full);
+      handles_are = sym (kept-full stands c.args.tags.now.handles (omega (arith, c.requires.stands)) full);
+      remembered_are = sym (kept-full stands c.args.tags.now.remembered (omega (arith, c.requires.stands, c.requires.remembered)) full);
       long = long;
       full = rw (← long) full;
     }
 
 pub returns-clause-closed : goal.returns-clause-closed
 returns-clause-closed c = record {
-  handles_are = rw (c.deref.ensures.value) at c.close_up_handles.ensures.kept;
-  remembered_are = rw (c.deref-2.ensures.value) at c.close_up_remembered.ensures.kept;
+  handles_are = rw (c.deref.ensures.value) at c.close_up_tags.ensures.handles;
+  remembered_are = rw (c.deref.ensures.value) at c.close_up_tags.ensures.remembered;
   long = omega (arith, c.close_up_stands.ensures.length);
   full = c.close_up_stands.ensures.full;
 }

@@ -6,7 +6,7 @@ abbrev pub invariant-far : goal.invariant-far
 invariant-far l = record {
   after : l.from ≤ l.spot;
   within : l.spot ≤ l.to;
-  missed : IsMissed l.range l.arena.cells l.handles l.stands l.from l.spot;
+  missed : IsMissed l.range l.arena.cells l.tags.handles l.stands l.from l.spot;
 }
 
 abbrev pub decreases-far : goal.decreases-far

@@ -3,4 +3,4 @@ use Rattle.crack_pending.specs.Inside.{IsSpotWith}
 use Rattle.crack_pending.proofs.noting.spot_behind.Given as goal
 
 abbrev pub invariant-spots : goal.invariant-spots
-invariant-spots l = (k : ℕ) → l.from ≤ k → k < l.spot → ¬ IsSpotWith l.handles l.stands l.slot k
+invariant-spots l = (k : ℕ) → l.from ≤ k → k < l.spot → ¬ IsSpotWith l.tags.handles l.stands l.slot k

@@ -11,20 +11,20 @@ pub take_candidates-count-requires-clause-room : goal.take_candidates-count-requ
 take_candidates-count-requires-clause-room c =
     let a = c.args in
     let i = c.batches.invariant in
-    omega (arith, ap length i.passed.taken_are, length-append c.batches.taken.items (rows_inside a.arena.now.cells a.range (kept c.batches.stands.items a.handles.now)), length-append a.taken.now.items (rows_inside a.arena.now.cells a.range (kept a.stands.now.items a.handles.now)), i.room, c.requires.room)
+    omega (arith, ap length i.passed.taken_are, length-append c.batches.taken.items (rows_inside a.arena.now.cells a.range (kept c.batches.stands.items a.tags.now.handles)), length-append a.taken.now.items (rows_inside a.arena.now.cells a.range (kept a.stands.now.items a.tags.now.handles)), i.room, c.requires.room)
 
 pub take_candidates-count-requires-clause-known_room : goal.take_candidates-count-requires-clause-known_room
 take_candidates-count-requires-clause-known_room c =
     let a = c.args in
     let i = c.batches.invariant in
-    omega (arith, ap length i.passed.taken_are, length-append c.batches.taken.items (rows_inside a.arena.now.cells a.range (kept c.batches.stands.items a.handles.now)), length-append a.taken.now.items (rows_inside a.arena.now.cells a.range (kept a.stands.now.items a.handles.now)), i.passed.gone_are.beside, c.requires.remembered.beside, i.known_room, c.requires.known_room)
+    omega (arith, ap length i.passed.taken_are, length-append c.batches.taken.items (rows_inside a.arena.now.cells a.range (kept c.batches.stands.items a.tags.now.handles)), length-append a.taken.now.items (rows_inside a.arena.now.cells a.range (kept a.stands.now.items a.tags.now.handles)), i.passed.gone_are.beside, c.requires.remembered.beside, i.known_room, c.requires.known_room)
 
 -- the pass has come one batch further
-on : (c : After-take_candidates-count) → IsPassed c.args.arena.now.cells c.args.range c.args.handles.now c.args.remembered.now c.args.stands.now.items c.take_candidates-count.new.stands.items c.take_candidates-count.new.codes c.args.taken.now.items c.take_candidates-count.new.taken.items c.take_candidates-count.new.known.items c.gather-to.result (c.batches.count + c.take_candidates-count.result) 0
+on : (c : After-take_candidates-count) → IsPassed c.args.arena.now.cells c.args.range c.args.tags.now.handles c.args.tags.now.remembered c.args.stands.now.items c.take_candidates-count.new.stands.items c.take_candidates-count.new.codes c.args.taken.now.items c.take_candidates-count.new.taken.items c.take_candidates-count.new.known.items c.gather-to.result (c.batches.count + c.take_candidates-count.result) 0
 on c =
     let a = c.args in
     let taken = c.take_candidates-count in
-    IsPassed-on a.arena.now.cells a.range a.handles.now a.remembered.now a.stands.now.items c.batches.stands.items taken.new.stands.items c.batches.codes taken.new.codes a.taken.now.items c.batches.taken.items taken.new.taken.items c.batches.known.items taken.new.known.items c.batches.spot c.gather-to.result c.batches.count taken.result 0 0 c.batches.invariant.passed taken.ensures.passed
+    IsPassed-on a.arena.now.cells a.range a.tags.now.handles a.tags.now.remembered a.stands.now.items c.batches.stands.items taken.new.stands.items c.batches.codes taken.new.codes a.taken.now.items c.batches.taken.items taken.new.taken.items c.batches.known.items taken.new.known.items c.batches.spot c.gather-to.result c.batches.count taken.result 0 0 c.batches.invariant.passed taken.ensures.passed
 
 pub overflow_add-count : goal.overflow_add-count
 overflow_add-count c =

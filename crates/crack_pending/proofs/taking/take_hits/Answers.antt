@@ -1,5 +1,5 @@
 use Rattle.std.proofs.Common.{◌≡◌, ◌++◌, ◌∷◌, [], Bool, true, false, length, get_or, set, refl, sym, ap, ◌∙◌, arith, length-set, length-append, ltb-false}
-use Rattle.std.proofs.lemmas.List.{append-nil, append_assoc, get_or_default}
+use Rattle.std.proofs.lemmas.List.{append-nil, append_assoc}
 use Rattle.crack_row.specs.Ranges.{is_in}
 use Rattle.crack_arena.specs.Arena.{Handle, no_handle}
 use Rattle.crack_arena.specs.Rows.{key_at}
@@ -17,7 +17,7 @@ use Rattle.crack_pending.proofs.Taken.{stood, inside-hole, outside-hole, none-in
 use Rattle.crack_pending.proofs.Unknown.{counted_hole, counted_none, counted_some}
 use Rattle.crack_pending.proofs.Views.{KnowRows-kept, place-within}
 use Rattle.crack_pending.proofs.taking.take_hits.Goals as goal
-use Rattle.crack_pending.proofs.taking.take_hits.Goals.{After-index-handles-spot}
+use Rattle.crack_pending.proofs.taking.take_hits.Goals.{After-handle}
 
 pub hits-init : goal.hits-init
 hits-init c =
@@ -37,8 +37,8 @@ hits-init c =
       long = refl;
       capacity = refl;
       counted = refl;
-      room = omega (arith, ap length passed.taken_are, length-append c.take_coded-start.new.taken.items (rows_inside a.arena.now.cells a.range (kept c.take_coded-start.new.stands.items a.handles.now)), length-append a.taken.now.items (rows_inside a.arena.now.cells a.range (kept a.stands.now.items a.handles.now)), coded.room, c.requires.room);
-      known_room = omega (arith, ap length passed.taken_are, length-append c.take_coded-start.new.taken.items (rows_inside a.arena.now.cells a.range (kept c.take_coded-start.new.stands.items a.handles.now)), length-append a.taken.now.items (rows_inside a.arena.now.cells a.range (kept a.stands.now.items a.handles.now)), passed.gone_are.beside, c.requires.remembered.beside, coded.known_room, c.requires.known_room);
+      room = omega (arith, ap length passed.taken_are, length-append c.take_coded-start.new.taken.items (rows_inside a.arena.now.cells a.range (kept c.take_coded-start.new.stands.items a.tags.now.handles)), length-append a.taken.now.items (rows_inside a.arena.now.cells a.range (kept a.stands.now.items a.tags.now.handles)), coded.room, c.requires.room);
+      known_room = omega (arith, ap length passed.taken_are, length-append c.take_coded-start.new.taken.items (rows_inside a.arena.now.cells a.range (kept c.take_coded-start.new.stands.items a.tags.now.handles)), length-append a.taken.now.items (rows_inside a.arena.now.cells a.range (kept a.stands.now.items a.tags.now.handles)), passed.gone_are.beside, c.requires.remembered.beside, coded.known_room, c.requires.known_room);
     }
 
 pub next_hit-requires-clause-stands : goal.next_hit-requires-clause-stands
@@ -48,27 +48,27 @@ pub next_hit-requires-clause-known : goal.next_hit-requires-clause-known
 next_hit-requires-clause-known c =
     let a = c.args in
     let i = c.hits.invariant in
-    rw (c.deref.ensures.value) (KnowRows-kept a.arena.now.cells a.handles.now a.remembered.now c.hits.stands.items (omega (arith, i.long, c.take_coded-start.ensures.passed.long, c.requires.stands)) c.requires.remembered_beside i.known)
+    rw (c.deref.ensures.value) (KnowRows-kept a.arena.now.cells a.tags.now.handles a.tags.now.remembered c.hits.stands.items (omega (arith, i.long, c.take_coded-start.ensures.passed.long, c.requires.stands)) c.requires.remembered_beside i.known)
 
 pub next_hit-requires-clause-all_known : goal.next_hit-requires-clause-all_known
 next_hit-requires-clause-all_known c = λ none.
     let i = c.hits.invariant in
     let zero : c.hits.left.unknowns ≡ 0 = omega (arith, ltb-false 0 c.hits.left.unknowns none) in
-    rw (c.deref.ensures.value) (counted_none c.args.remembered.now c.hits.stands.items (omega (arith, i.long, c.take_coded-start.ensures.passed.long, c.requires.stands, c.requires.remembered_beside)) (omega (arith, i.unknowns, zero)))
+    rw (c.deref.ensures.value) (counted_none c.args.tags.now.remembered c.hits.stands.items (omega (arith, i.long, c.take_coded-start.ensures.passed.long, c.requires.stands, c.requires.remembered_beside)) (omega (arith, i.unknowns, zero)))
 
 -- the row at the spot that was found is the first of the range
-record IsTaken (c : After-index-handles-spot) : Type 0 where
-  hit : IsHit c.args.range c.args.arena.now.cells c.args.handles.now c.hits.stands.items c.hits.start (length c.args.handles.now) c.in-Some.spot
-  beside : length c.hits.stands.items ≡ length c.args.handles.now
-  remembered_beside : length c.hits.stands.items ≡ length c.args.remembered.now
-  missed : IsMissed c.args.range c.args.arena.now.cells c.args.handles.now c.hits.stands.items 0 c.in-Some.spot
-  inside : rows_inside c.args.arena.now.cells c.args.range (kept c.hits.stands.items c.args.handles.now) ≡ c.index-handles-spot.result ∷ rows_inside c.args.arena.now.cells c.args.range (kept (set c.hits.stands.items c.in-Some.spot false) c.args.handles.now)
+record IsTaken (c : After-handle) : Type 0 where
+  hit : IsHit c.args.range c.args.arena.now.cells c.args.tags.now.handles c.hits.stands.items c.hits.start (length c.args.tags.now.handles) c.in-Some.spot
+  beside : length c.hits.stands.items ≡ length c.args.tags.now.handles
+  remembered_beside : length c.hits.stands.items ≡ length c.args.tags.now.remembered
+  missed : IsMissed c.args.range c.args.arena.now.cells c.args.tags.now.handles c.hits.stands.items 0 c.in-Some.spot
+  inside : rows_inside c.args.arena.now.cells c.args.range (kept c.hits.stands.items c.args.tags.now.handles) ≡ c.handle.result ∷ rows_inside c.args.arena.now.cells c.args.range (kept (set c.hits.stands.items c.in-Some.spot false) c.args.tags.now.handles)
 
-is_taken : (c : After-index-handles-spot) → IsTaken c
+is_taken : (c : After-handle) → IsTaken c
 is_taken c =
     let a = c.args in
     let cells = a.arena.now.cells in
-    let hs = a.handles.now in
+    let hs = a.tags.now.handles in
     let stands = c.hits.stands.items in
     let spot = c.in-Some.spot in
     let i = c.hits.invariant in
@@ -78,7 +78,7 @@ is_taken c =
     let test : Handle → Bool = λ h. is_in a.range (key_at cells h) in
     let is : test (get_or hs spot no_handle) ≡ true = is_in-true a.range (key_at cells (get_or hs spot no_handle)) hit.holds in
     let first = inside-hole test stands hs spot no_handle beside hit.stands_there is (λ k less there. is_in-false a.range (key_at cells (get_or hs k no_handle)) (missed k (omega arith) less there)) in
-    let same : get_or hs spot no_handle ≡ c.index-handles-spot.result = get_or_default hs spot no_handle c.index-handles-spot.result hit.within ∙ sym c.index-handles-spot.is in
+    let same : get_or hs spot no_handle ≡ c.handle.result = sym c.handle.ensures in
     record {
       hit = hit;
       beside = beside;
@@ -89,18 +89,18 @@ is_taken c =
 
 pub push_reserved-requires : goal.push_reserved-requires
 push_reserved-requires c =
-    let it = is_taken (goal.at.push_reserved-requires c).After-index-handles-spot in
+    let it = is_taken (goal.at.push_reserved-requires c).After-handle in
     omega (arith, ap length it.inside, c.hits.invariant.room)
 
 pub push_reserved-requires-in-Some : goal.push_reserved-requires-in-Some
 push_reserved-requires-in-Some c =
-    let it = is_taken (goal.at.push_reserved-requires-in-Some c).After-index-handles-spot in
+    let it = is_taken (goal.at.push_reserved-requires-in-Some c).After-handle in
     omega (arith, ap length it.inside, c.hits.invariant.known_room)
 
 pub unknowns_without-requires-clause-counted : goal.unknowns_without-requires-clause-counted
 unknowns_without-requires-clause-counted c = λ is.
-    let it = is_taken (goal.at.unknowns_without-requires-clause-counted c).After-index-handles-spot in
-    omega (arith, c.hits.invariant.unknowns, counted_some c.args.remembered.now c.hits.stands.items it.remembered_beside c.in-Some.spot it.hit.stands_there is)
+    let it = is_taken (goal.at.unknowns_without-requires-clause-counted c).After-handle in
+    omega (arith, c.hits.invariant.unknowns, counted_some c.args.tags.now.remembered c.hits.stands.items it.remembered_beside c.in-Some.spot it.hit.stands_there is)
 
 pub overflow_add-left : goal.overflow_add-left
 overflow_add-left c =
@@ -109,24 +109,24 @@ overflow_add-left c =
 
 pub hits-smaller : goal.hits-smaller
 hits-smaller c =
-    let it = is_taken (goal.at.hits-smaller c).After-index-handles-spot in
+    let it = is_taken (goal.at.hits-smaller c).After-handle in
     omega (arith, it.hit.after, it.hit.within)
 
 pub hits-preserved : goal.hits-preserved
 hits-preserved c =
     let a = c.args in
     let cells = a.arena.now.cells in
-    let hs = a.handles.now in
-    let remembered = a.remembered.now in
+    let hs = a.tags.now.handles in
+    let remembered = a.tags.now.remembered in
     let stands = c.hits.stands.items in
     let spot = c.in-Some.spot in
     let i = c.hits.invariant in
-    let it = is_taken (goal.at.hits-preserved c).After-index-handles-spot in
+    let it = is_taken (goal.at.hits-preserved c).After-handle in
     let at = it.hit.stands_there in
     let test : Handle → Bool = λ h. is_in a.range (key_at cells h) in
     let left = kept (set stands spot false) hs in
-    let same : get_or hs spot no_handle ≡ c.index-handles-spot.result = get_or_default hs spot no_handle c.index-handles-spot.result it.hit.within ∙ sym c.index-handles-spot.is in
-    let memory : get_or remembered spot nothing ≡ c.index-remembered-spot.result = get_or_default remembered spot nothing c.index-remembered-spot.result (omega (arith, it.hit.within, c.requires.remembered_beside)) ∙ sym c.index-remembered-spot.is in
+    let same : get_or hs spot no_handle ≡ c.handle.result = sym c.handle.ensures in
+    let memory : get_or remembered spot nothing ≡ c.memory.result = sym c.memory.ensures in
     let hole : left ≡ _ = kept-hole stands hs spot it.beside at in
     let key_hole = kept-hole stands remembered spot it.remembered_beside at in
     record {
@@ -134,7 +134,7 @@ hits-preserved c =
       missed = λ k after before there.
           let other = stood stands spot k at there in
           it.missed k after (omega (arith, before, other.0)) other.1;
-      taken = rw (c.push_reserved.ensures.items) (append_assoc c.hits.taken.items (c.index-handles-spot.result ∷ []) (rows_inside cells a.range left) ∙ ap (λ xs. c.hits.taken.items ++ xs) (sym it.inside) ∙ i.taken);
+      taken = rw (c.push_reserved.ensures.items) (append_assoc c.hits.taken.items (c.handle.result ∷ []) (rows_inside cells a.range left) ∙ ap (λ xs. c.hits.taken.items ++ xs) (sym it.inside) ∙ i.taken);
       outside = outside-hole test stands hs spot no_handle it.beside at (is_in-true a.range (key_at cells (get_or hs spot no_handle)) it.hit.holds) ∙ i.outside;
       gone = rw (c.push_reserved.ensures.items, c.push_reserved-in-Some.ensures.items) (rw (same, memory) at (Remembers-append cells c.hits.taken.items c.hits.known.items (get_or hs spot no_handle) (get_or remembered spot nothing) (KnowRows-kept cells hs remembered stands it.beside c.requires.remembered_beside i.known spot at) i.gone));
       known = rw (hole, key_hole) (Remembers-remove cells (kept stands hs) (kept stands remembered) (place_at stands spot) (place-within hs stands it.beside spot at) i.known);
@@ -152,7 +152,7 @@ pub returns-clause-taken : goal.returns-clause-taken
 returns-clause-taken c =
     let a = c.args in
     let cells = a.arena.now.cells in
-    let hs = a.handles.now in
+    let hs = a.tags.now.handles in
     let stands = c.hits.stands.items in
     let i = c.hits.invariant in
     let rest : IsMissed a.range cells hs stands c.hits.start (length hs) = rw (c.deref.ensures.value) at c.in_default.ensures.hit in
@@ -165,7 +165,7 @@ pub returns-clause-left : goal.returns-clause-left
 returns-clause-left c =
     let a = c.args in
     let cells = a.arena.now.cells in
-    let hs = a.handles.now in
+    let hs = a.tags.now.handles in
     let stands = c.hits.stands.items in
     let i = c.hits.invariant in
     let rest : IsMissed a.range cells hs stands c.hits.start (length hs) = rw (c.deref.ensures.value) at c.in_default.ensures.hit in

@@ -1,5 +1,5 @@
 use Rattle.std.proofs.Common.{arith}
-use Rattle.crack_pending.proofs.Views.{place-StandsAt, length-rows}
+use Rattle.crack_pending.proofs.Views.{place-StandsAt, read-at, length-rows}
 use Rattle.crack_pending.proofs.list.PendingList.at.Goals as goal
 
 pub spot_of-requires-clause-within : goal.spot_of-requires-clause-within
@@ -13,5 +13,5 @@ returns g c =
     let a = c.self.invariant.0 in
     let stands = rw (c.deref.ensures.value) at c.spot_of.ensures.stands in
     let place = rw (c.deref.ensures.value) at c.spot_of.ensures.place in
-    let there = place-StandsAt c.self.inside.handles.items c.self.inside.stands.items a.stands_beside c.spot_of.result c.index.result.now stands c.index.ensures in
+    let there = place-StandsAt c.self.inside.tags.handles c.self.inside.stands.items a.stands_beside c.spot_of.result c.handle.result stands (read-at c.self.inside.tags.handles c.self.inside.stands.items a.stands_beside c.spot_of.result c.handle.result stands c.handle.ensures) in
     rw (← c.self.view_is) (rw place at there)

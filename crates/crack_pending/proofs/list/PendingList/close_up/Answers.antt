@@ -22,7 +22,7 @@ returns-clause-same g c =
 pub returns-clause-kept : goal.returns-clause-kept
 returns-clause-kept g c =
     let fewer = closed-fewer c.self.invariant.0 c.close_up.ensures.closed in
-    rw (← c.self.view_is, c.close_up.ensures.handle_capacity, c.close_up.ensures.remembered_capacity, c.close_up.ensures.stand_capacity) (omega (arith, fewer))
+    rw (← c.self.view_is, c.close_up.ensures.tag_capacity, c.close_up.ensures.stand_capacity) (omega (arith, fewer))
 
 pub returns-clause-remembered : goal.returns-clause-remembered
 returns-clause-remembered g c = λ cells r.

@@ -14,5 +14,5 @@ invariant_of-self g c =
       kept_covered c.self.invariant.0 c.lengthen.new.spots.items (omega (arith, e.kept)) (λ k within. e.same k (omega (arith, within))),
       c.self.invariant.1,
       c.self.invariant.2,
-      members_longer i.members c.lengthen.new.members (kept i.stands.items i.handles.items) _ c.self.invariant.3 _ (omega (arith, e.covered)) e.members,
+      members_longer i.members c.lengthen.new.members (kept i.stands.items i.tags.handles) _ c.self.invariant.3 _ (omega (arith, e.covered)) e.members,
     )

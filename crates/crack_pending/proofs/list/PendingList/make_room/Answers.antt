@@ -1,6 +1,6 @@
 use Rattle.std.proofs.Common.{◌≡◌, ◌≤◌, length, vec_len, vec_capacity, refl, ap, ◌∙◌, arith}
 use Rattle.crack_pending.proofs.Coded.{coded_none}
-use Rattle.crack_pending.proofs.Views.{same_view, closed-kept, closed-handles, closed-remembered, closed-fewer, closed-rows, room-more, room-enough, OnOk_three, length-rows}
+use Rattle.crack_pending.proofs.Views.{same_view, closed-kept, closed-handles, closed-remembered, closed-fewer, closed-rows, room-more, room-enough, OnOk_two, length-rows}
 use Rattle.crack_pending.proofs.list.PendingList.make_room.Goals as goal
 
 pub invariant_of-self : goal.invariant_of-self
@@ -29,14 +29,11 @@ returns-clause-room g c =
     let closed = c.close_up.ensures.closed in
     let rows = closed-rows a closed in
     let few = rw (← c.self.view_is) at c.requires in
-    let long : length c.grow.new.handles.items ≡ i.rows = ap length c.grow.ensures.handles ∙ rows in
-    let all = closed-kept a closed in
+    let long : length c.grow.new.tags.handles ≡ i.rows = ap length c.grow.ensures.handles ∙ rows in
     let more : c.args.additional ≤ c.max-wanted.result = omega (arith, c.max-wanted.ensures) in
-    let h : vec_len c.close_up.new.handles ≡ i.rows = omega (arith, rows) in
-    let k : vec_len c.close_up.new.remembered ≡ i.rows = omega (arith, all.remembered_beside, rows) in
     let s : vec_len c.close_up.new.stands ≡ i.rows = omega (arith, closed.long) in
-    OnOk_three c.grow.result _ _ _ _ c.grow.ensures.handle_room c.grow.ensures.remembered_room c.grow.ensures.stand_room (λ handle_room remembered_room stand_room.
-    rw long (room-enough i.rows c.args.additional (vec_capacity c.grow.new.handles) (vec_capacity c.grow.new.remembered) (vec_capacity c.grow.new.stands) (omega (arith, few, length-rows a)) (omega (arith, handle_room, h, more)) (omega (arith, remembered_room, k, more)) (omega (arith, stand_room, s, more))))
+    OnOk_two c.grow.result _ _ _ c.grow.ensures.tag_room c.grow.ensures.stand_room (λ tag_room stand_room.
+    rw long (room-enough i.rows c.args.additional c.grow.new.tags.capacity (vec_capacity c.grow.new.stands) (omega (arith, few, length-rows a)) (omega (arith, tag_room, rows, more)) (omega (arith, stand_room, s, more))))
 
 pub returns-clause-kept : goal.returns-clause-kept
 returns-clause-kept g c =
@@ -44,8 +41,8 @@ returns-clause-kept g c =
     let i = c.self.inside in
     let closed = c.close_up.ensures.closed in
     let fewer = closed-fewer a closed in
-    let long : length c.grow.new.handles.items ≤ length i.handles.items = omega (arith, ap length c.grow.ensures.handles, fewer) in
-    rw (← c.self.view_is) (room-more _ _ _ _ _ _ _ _ long (omega (arith, c.grow.ensures.handle_kept, c.close_up.ensures.handle_capacity)) (omega (arith, c.grow.ensures.remembered_kept, c.close_up.ensures.remembered_capacity)) (omega (arith, c.grow.ensures.stand_kept, c.close_up.ensures.stand_capacity)))
+    let long : length c.grow.new.tags.handles ≤ length i.tags.handles = omega (arith, ap length c.grow.ensures.handles, fewer) in
+    rw (← c.self.view_is) (room-more _ _ _ _ _ _ long (omega (arith, c.grow.ensures.tag_kept, c.close_up.ensures.tag_capacity)) (omega (arith, c.grow.ensures.stand_kept, c.close_up.ensures.stand_capacity)))
 
 pub returns-clause-remembered : goal.returns-clause-remembered
 returns-clause-remembered g c = λ cells r.

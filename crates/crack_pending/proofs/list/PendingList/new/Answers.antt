@@ -8,4 +8,4 @@ use Rattle.crack_pending.proofs.list.PendingList.new.Goals as goal
 
 pub invariant_of-result : goal.invariant_of-result
 invariant_of-result g c =
-    rw (c.new.ensures.items, c.new-2.ensures.items, c.new-4.ensures.items, c.new-5.ensures.items, c.new-6.ensures) (kept_none [], sym (times-nil unknown), coded_none [] [] c.new-3.result c.new-3.ensures, members_none)
+    rw (c.new.ensures, c.new-3.ensures.items, c.new-4.ensures.items, c.new-5.ensures) (kept_none [], sym (times-nil unknown), coded_none [] [] c.new-2.result c.new-2.ensures, members_none)

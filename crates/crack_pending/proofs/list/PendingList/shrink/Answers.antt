@@ -13,7 +13,7 @@ pub invariant_of-self : goal.invariant_of-self
 invariant_of-self g c =
     let a = c.self.invariant.0 in
     let closed = c.close_up.ensures.closed in
-    rw (c.shrink_to.ensures.items, c.shrink_to-2.ensures.items, c.shrink_to-3.ensures.items) (
+    rw (c.shrink_to.ensures.handles, c.shrink_to.ensures.remembered, c.shrink_to-2.ensures.items) (
       closed-kept a closed,
       rw (closed-remembered a closed) c.self.invariant.1,
       coded_none _ _ c.give_back.new.self c.give_back.ensures,
@@ -26,7 +26,7 @@ returns-clause-same g c =
     let closed = c.close_up.ensures.closed in
     let handles = closed-handles a closed in
     let remembered = closed-remembered a closed in
-    rw (← c.self.view_is) (same_view _ _ _ _ _ _ _ (rw (c.shrink_to.ensures.items, c.shrink_to-3.ensures.items) handles) (rw (c.shrink_to-2.ensures.items, c.shrink_to-3.ensures.items) remembered) refl)
+    rw (← c.self.view_is) (same_view _ _ _ _ _ _ _ (rw (c.shrink_to.ensures.handles, c.shrink_to-2.ensures.items) handles) (rw (c.shrink_to.ensures.remembered, c.shrink_to-2.ensures.items) remembered) refl)
 
 pub returns-clause-sure : goal.returns-clause-sure
 returns-clause-sure g c =
@@ -35,12 +35,12 @@ returns-clause-sure g c =
     let closed = c.close_up.ensures.closed in
     let some = rw (← c.self.view_is) at c.requires in
     let rows = closed-rows a closed in
-    let long : length c.shrink_to.new.self.items ≡ i.rows = ap length c.shrink_to.ensures.items ∙ rows in
-    rw long (room-sure (length i.handles.items) i.rows c.args.room c.max-wanted.result _ _ _ _ _ _ (few-rows a) (omega (arith, c.max-wanted.ensures)) some (omega (arith, c.shrink_to.ensures.lower_bound, c.close_up.ensures.handle_capacity)) (omega (arith, c.shrink_to-2.ensures.lower_bound, c.close_up.ensures.remembered_capacity)) (omega (arith, c.shrink_to-3.ensures.lower_bound, c.close_up.ensures.stand_capacity)))
+    let long : length c.shrink_to.new.self.handles ≡ i.rows = ap length c.shrink_to.ensures.handles ∙ rows in
+    rw long (room-sure (length i.tags.handles) i.rows c.args.room c.max-wanted.result _ _ _ _ (few-rows a) (omega (arith, c.max-wanted.ensures)) some (omega (arith, c.shrink_to.ensures.lower, c.close_up.ensures.tag_capacity)) (omega (arith, c.shrink_to-2.ensures.lower_bound, c.close_up.ensures.stand_capacity)))
 
 pub returns-clause-remembered : goal.returns-clause-remembered
 returns-clause-remembered g c = λ cells r.
     let a = c.self.invariant.0 in
     let closed = c.close_up.ensures.closed in
     let known = rw (← c.self.view_is) at r in
-    rw (c.shrink_to.ensures.items, c.shrink_to-2.ensures.items, c.shrink_to-3.ensures.items, closed-handles a closed, closed-remembered a closed) known
+    rw (c.shrink_to.ensures.handles, c.shrink_to.ensures.remembered, c.shrink_to-2.ensures.items, closed-handles a closed, closed-remembered a closed) known

@@ -4,7 +4,7 @@ use Rattle.crack_pending.specs.Pending.{Pending}
 use Rattle.crack_pending.proofs.Kept.{place_at-hole_behind, Stands-within, kept-hole}
 use Rattle.crack_pending.proofs.Coded.{coded_hole}
 use Rattle.crack_pending.proofs.MemberSpots.{members_hole}
-use Rattle.crack_pending.proofs.Views.{kept_hole, place-StandsAt, spot-with, memories-beside, length-rows, remembers-others}
+use Rattle.crack_pending.proofs.Views.{kept_hole, place-StandsAt, spot-with, read-at, memories-beside, length-rows, remembers-others}
 use Rattle.crack_pending.proofs.Unknown.{counted_hole, counted_some}
 use Rattle.crack_pending.proofs.list.PendingList.take.Goals as goal
 use Rattle.crack_pending.proofs.list.PendingList.take.Goals.{After-slot}
@@ -17,11 +17,11 @@ spot_of-spot-requires-clause-within g c =
     omega (arith, within, length-rows a)
 
 -- the cell that is struck is that of the row at the spot
-spot_with : (g : Over) (c : After-slot g) → IsSpotWith c.self.inside.handles.items c.self.inside.stands.items c.slot.result c.spot_of-spot.result
+spot_with : (g : Over) (c : After-slot g) → IsSpotWith c.self.inside.tags.handles c.self.inside.stands.items c.slot.result c.spot_of-spot.result
 spot_with g c =
     let a = c.self.invariant.0 in
     let stands = rw (c.deref.ensures.value) at c.spot_of-spot.ensures.stands in
-    rw (c.slot.ensures) (spot-with c.self.inside.handles.items c.self.inside.stands.items a.stands_beside c.spot_of-spot.result c.index.result.now stands c.index.ensures)
+    rw (c.slot.ensures) (spot-with c.self.inside.tags.handles c.self.inside.stands.items a.stands_beside c.spot_of-spot.result c.handle-handle.result stands (read-at c.self.inside.tags.handles c.self.inside.stands.items a.stands_beside c.spot_of-spot.result c.handle-handle.result stands c.handle-handle.ensures))
 
 pub strike-requires : goal.strike-requires
 strike-requires g c =
@@ -40,7 +40,7 @@ unknowns_without-self-inside-requires-clause-counted g c = λ is.
     let a = c.self.invariant.0 in
     let i = c.self.inside in
     let stands = rw (c.deref.ensures.value) at c.spot_of-spot.ensures.stands in
-    omega (arith, c.self.invariant.1, counted_some i.remembered.items i.stands.items (memories-beside a) c.spot_of-spot.result stands (rw (c.deref-2.ensures.value) at is))
+    omega (arith, c.self.invariant.1, counted_some i.tags.remembered i.stands.items (memories-beside a) c.spot_of-spot.result stands is)
 
 pub invariant_of-self : goal.invariant_of-self
 invariant_of-self g c =
@@ -49,10 +49,10 @@ invariant_of-self g c =
     let spot = c.spot_of-spot.result in
     let stands = rw (c.deref.ensures.value) at c.spot_of-spot.ensures.stands in
     let place = rw (c.deref.ensures.value) at c.spot_of-spot.ensures.place in
-    let less = rw (c.deref-2.ensures.value) at c.unknowns_without-self-inside.ensures in (
+    let less = c.unknowns_without-self-inside.ensures in (
       kept_hole a spot c.args.place spot stands (omega (arith, Stands-within i.stands.items spot stands, a.stands_beside)) (sym place ∙ sym (place_at-hole_behind i.stands.items spot spot (omega arith))),
-      omega (arith, c.self.invariant.1, less, counted_hole i.remembered.items i.stands.items (memories-beside a) spot stands),
-      rw (c.leave_hole.ensures) (coded_hole i.remembered.items i.stands.items i.codes c.self.invariant.2 spot stands),
+      omega (arith, c.self.invariant.1, less, counted_hole i.tags.remembered i.stands.items (memories-beside a) spot stands),
+      rw (c.leave_hole.ensures) (coded_hole i.tags.remembered i.stands.items i.codes c.self.invariant.2 spot stands),
       members_hole a c.self.invariant.3 c.strike.new.self c.strike.ensures.long (spot_with g (goal.at.invariant_of-self g c).After-slot) c.strike.ensures.gone c.strike.ensures.others,
     )
 
@@ -61,7 +61,7 @@ returns-clause-value g c =
     let a = c.self.invariant.0 in
     let stands = rw (c.deref.ensures.value) at c.spot_of-spot.ensures.stands in
     let place = rw (c.deref.ensures.value) at c.spot_of-spot.ensures.place in
-    let there = place-StandsAt c.self.inside.handles.items c.self.inside.stands.items a.stands_beside c.spot_of-spot.result c.index.result.now stands c.index.ensures in
+    let there = place-StandsAt c.self.inside.tags.handles c.self.inside.stands.items a.stands_beside c.spot_of-spot.result c.handle-handle.result stands (read-at c.self.inside.tags.handles c.self.inside.stands.items a.stands_beside c.spot_of-spot.result c.handle-handle.result stands c.handle-handle.ensures) in
     rw (← c.self.view_is) (rw place at there)
 
 pub returns-clause-handles : goal.returns-clause-handles
@@ -70,7 +70,7 @@ returns-clause-handles g c =
     let i = c.self.inside in
     let stands = rw (c.deref.ensures.value) at c.spot_of-spot.ensures.stands in
     let place = rw (c.deref.ensures.value) at c.spot_of-spot.ensures.place in
-    let hole = kept-hole i.stands.items i.handles.items c.spot_of-spot.result a.stands_beside stands in
+    let hole = kept-hole i.stands.items i.tags.handles c.spot_of-spot.result a.stands_beside stands in
     rw (← c.self.view_is) (ap (λ (p : Pending). p.handles) c.close_up_if_sparse.ensures.same ∙ (rw place at hole))
 
 pub returns-clause-keys : goal.returns-clause-keys
@@ -79,7 +79,7 @@ returns-clause-keys g c =
     let i = c.self.inside in
     let stands = rw (c.deref.ensures.value) at c.spot_of-spot.ensures.stands in
     let place = rw (c.deref.ensures.value) at c.spot_of-spot.ensures.place in
-    let hole = kept-hole i.stands.items i.remembered.items c.spot_of-spot.result (memories-beside a) stands in
+    let hole = kept-hole i.stands.items i.tags.remembered c.spot_of-spot.result (memories-beside a) stands in
     rw (← c.self.view_is) (ap (λ (p : Pending). p.remembered) c.close_up_if_sparse.ensures.same ∙ (rw place at hole))
 
 pub returns-clause-remembered : goal.returns-clause-remembered

@@ -8,22 +8,22 @@ use Rattle.crack_pending.proofs.MemberSpots.{members_parted}
 use Rattle.crack_pending.proofs.Taken.{drop-after, kept_taken, times-parted}
 use Rattle.crack_pending.proofs.Views.{once}
 use Rattle.crack_pending.proofs.list.PendingList.take_in.Goals as goal
-use Rattle.crack_pending.proofs.list.PendingList.take_in.Goals.{After-deref-5}
+use Rattle.crack_pending.proofs.list.PendingList.take_in.Goals.{After-deref-2}
 use Rattle.crack_pending.proofs.list.PendingList.take_in.Given.{Over}
 
 -- those that are struck are the rows of the range
-behind : (g : Over) (c : After-deref-5 g) → drop c.len-from.result c.deref-5.result.now ≡ rows_inside c.args.arena.now.cells c.args.range (kept c.self.inside.stands.items c.self.inside.handles.items)
+behind : (g : Over) (c : After-deref-2 g) → drop c.len-from.result c.deref-2.result.now ≡ rows_inside c.args.arena.now.cells c.args.range (kept c.self.inside.stands.items c.self.inside.tags.handles)
 behind g c =
-    let inside = rows_inside c.args.arena.now.cells c.args.range (kept c.self.inside.stands.items c.self.inside.handles.items) in
-    let taken : c.take_hits-left.new.taken.items ≡ c.args.taken.now.items ++ inside = rw (c.deref-3.ensures.value) at c.take_hits-left.ensures.taken in
+    let inside = rows_inside c.args.arena.now.cells c.args.range (kept c.self.inside.stands.items c.self.inside.tags.handles) in
+    let taken : c.take_hits-left.new.taken.items ≡ c.args.taken.now.items ++ inside = c.take_hits-left.ensures.taken in
     let from : c.len-from.result ≡ length c.args.taken.now.items = omega (arith, c.len-from.ensures) in
-    rw (c.deref-5.ensures.value, taken, from) (drop-after c.args.taken.now.items inside)
+    rw (c.deref-2.ensures.value, taken, from) (drop-after c.args.taken.now.items inside)
 
 pub strike_from-requires : goal.strike_from-requires
 strike_from-requires g c = λ slot some.
-    let rows = kept c.self.inside.stands.items c.self.inside.handles.items in
+    let rows = kept c.self.inside.stands.items c.self.inside.tags.handles in
     let test : Handle → Bool = λ h. is_in c.args.range (key_at c.args.arena.now.cells h) in
-    let listed : 0 < times slot (slots (rows_inside c.args.arena.now.cells c.args.range rows)) = rw (behind g (goal.at.strike_from-requires g c).After-deref-5) at some in
+    let listed : 0 < times slot (slots (rows_inside c.args.arena.now.cells c.args.range rows)) = rw (behind g (goal.at.strike_from-requires g c).After-deref-2) at some in
     (c.self.invariant.3.right slot).1 (omega (arith, listed, times-parted test slot rows))
 
 pub overflow_sub-self : goal.overflow_sub-self
@@ -34,24 +34,24 @@ invariant_of-self g c =
     let a = c.self.invariant.0 in
     let i = c.self.inside in
     let e = c.take_hits-left.ensures in
-    let left = rw (c.deref-3.ensures.value) at e.left in
-    let struck = rw (behind g (goal.at.invariant_of-self g c).After-deref-5) at c.strike_from.ensures.struck in (
+    let left = e.left in
+    let struck = rw (behind g (goal.at.invariant_of-self g c).After-deref-2) at c.strike_from.ensures.struck in (
       kept_taken a c.take_hits-left.new.stands.items (i.rows - c.take_hits-left.result.taken) e.long e.stood (omega (arith, a.counted, e.counted)),
-      rw (c.deref-4.ensures.value) at e.unknowns,
-      rw (c.deref-4.ensures.value) at e.coded,
-      rw left (members_parted c.self.invariant.3 c.strike_from.new.members c.strike_from.ensures.long (λ h. is_in c.args.range (key_at c.args.arena.now.cells h)) (once i.handles.items i.stands.items a.stands_beside a.apart) struck),
+      e.unknowns,
+      e.coded,
+      rw left (members_parted c.self.invariant.3 c.strike_from.new.members c.strike_from.ensures.long (λ h. is_in c.args.range (key_at c.args.arena.now.cells h)) (once i.tags.handles i.stands.items a.stands_beside a.apart) struck),
     )
 
 pub returns-clause-taken : goal.returns-clause-taken
-returns-clause-taken g c = rw (← c.self.view_is) (rw (c.deref-3.ensures.value) at c.take_hits-left.ensures.taken)
+returns-clause-taken g c = rw (← c.self.view_is) (c.take_hits-left.ensures.taken)
 
 pub returns-clause-left : goal.returns-clause-left
 returns-clause-left g c =
-    rw (← c.self.view_is) (ap (λ (p : Pending). p.handles) c.close_up_if_sparse.ensures.same ∙ (rw (c.deref-3.ensures.value) at c.take_hits-left.ensures.left))
+    rw (← c.self.view_is) (ap (λ (p : Pending). p.handles) c.close_up_if_sparse.ensures.same ∙ (c.take_hits-left.ensures.left))
 
 pub returns-clause-keys : goal.returns-clause-keys
 returns-clause-keys g c =
-    let known = rw (c.deref-3.ensures.value, c.deref-4.ensures.value) at c.take_hits-left.ensures.known in
+    let known = c.take_hits-left.ensures.known in
     rw c.close_up_if_sparse.ensures.same known
 
 pub returns-clause-room : goal.returns-clause-room
