@@ -14,7 +14,8 @@ use Rattle.crack_serials.specs.Serials.{handle_of}
 use Rattle.crack_serials.proofs.Laws.{Maps-placed}
 use Rattle.crack_state.specs.State.{State, live_rows}
 use Rattle.crack_state.specs.Steps.{admitted, next_handle, IsAdmissible, SameButRoom}
-use Rattle.crack_store.specs.Runs.{run_rows, row_in, all_admitted, AreAdmissible}
+use Rattle.crack_store.specs.Runs.{run_rows, all_admitted, AreAdmissible}
+use Rattle.crack_store.specs.Rooms.{row_of_run}
 
 -- so many rows of a run, from the first on, were admitted, and the others may be
 pub record IsRun (first : ℕ) (keys : List ℕ) (payloads : List ℤ) (s : State) (n : ℕ) (t : State) : Type 0 where
@@ -34,7 +35,7 @@ IsRun-none first keys payloads s may = record {
 }
 
 -- the next row may be admitted
-pub IsRun-may : (first : ℕ) (keys : List ℕ) (payloads : List ℤ) (s : State) (n : ℕ) (t : State) → IsRun first keys payloads s n t → n < length keys → IsAdmissible (row_in first keys payloads n) t
+pub IsRun-may : (first : ℕ) (keys : List ℕ) (payloads : List ℤ) (s : State) (n : ℕ) (t : State) → IsRun first keys payloads s n t → n < length keys → IsAdmissible (row_of_run first keys payloads n) t
 IsRun-may first keys payloads s n t run more = record {
   fresh = run.fresh (first + n) (omega arith) (omega (arith, more));
   within = All-get_or (IsIn t.keys) keys n 0 more run.within;
@@ -42,7 +43,7 @@ IsRun-may first keys payloads s n t run more = record {
 }
 
 -- the rows of a run up to one more
-rows-next : (first : ℕ) (keys : List ℕ) (payloads : List ℤ) (n : ℕ) → n < length keys → length payloads ≡ length keys → take (suc n) (run_rows first keys payloads) ≡ take n (run_rows first keys payloads) ++ row_in first keys payloads n ∷ []
+rows-next : (first : ℕ) (keys : List ℕ) (payloads : List ℤ) (n : ℕ) → n < length keys → length payloads ≡ length keys → take (suc n) (run_rows first keys payloads) ≡ take n (run_rows first keys payloads) ++ row_of_run first keys payloads n ∷ []
 rows-next first [] payloads n more same = absurd (omega (arith, more))
 rows-next first (k ∷ ks) [] n more same = absurd (omega (arith, same))
 rows-next first (k ∷ ks) (p ∷ ps) zero more same = let e : first ≡ first + 0 = omega arith in ap (λ (serial : ℕ). record { serial = record { 0 = serial }; key = record { 0 = k }; payload = record { 0 = p } } ∷ []) e
@@ -66,9 +67,9 @@ cells-next row cells [] keys n few = omega (arith, few, length_push cells (recor
 cells-next row cells (m ∷ ms) keys n few = omega (arith, few, length-set cells m (record { generation = (cell_at cells m).generation; value = Some row }))
 
 -- the next row was admitted
-pub IsRun-next : (first : ℕ) (keys : List ℕ) (payloads : List ℤ) (s : State) (n : ℕ) (t u : State) → length payloads ≡ length keys → n < length keys → IsRun first keys payloads s n t → SameButRoom (admitted (row_in first keys payloads n) t) u → IsPermutation (row_in first keys payloads n ∷ live_rows t) (live_rows u) → IsRun first keys payloads s (n + 1) u
+pub IsRun-next : (first : ℕ) (keys : List ℕ) (payloads : List ℤ) (s : State) (n : ℕ) (t u : State) → length payloads ≡ length keys → n < length keys → IsRun first keys payloads s n t → SameButRoom (admitted (row_of_run first keys payloads n) t) u → IsPermutation (row_of_run first keys payloads n ∷ live_rows t) (live_rows u) → IsRun first keys payloads s (n + 1) u
 IsRun-next first keys payloads s n t u beside more run after live =
-    let row = row_in first keys payloads n in
+    let row = row_of_run first keys payloads n in
     let so_far = take n (run_rows first keys payloads) in
     let step : n + 1 ≡ suc n = omega arith in
     let rows : take (n + 1) (run_rows first keys payloads) ≡ so_far ++ row ∷ [] = ap (λ k. take k (run_rows first keys payloads)) step ∙ rows-next first keys payloads n more beside in

@@ -1,8 +1,15 @@
 -- What private clauses alone cite.
--- Room for rows that are to be admitted.
-use Rattle.std.specs.Prelude.{ℕ, ◌+◌, ◌-◌, ◌≤◌, length}
+-- A row of a run, and room for rows that are to be admitted.
+use Rattle.std.specs.Prelude.{ℕ, ◌+◌, ◌-◌, ◌≤◌, ℤ, pos, List, length, slice_index_or}
+use Rattle.crack_row.specs.Rows.{row_with}
+use Rattle.crack_row.specs.declared.Row.{Row}
 use Rattle.crack_serials.specs.Serials.{HasRoom}
 use Rattle.crack_store.specs.declared.inside.Inside.{Inside}
+
+-- the row at an index of a run, if both lists have one there
+abbrev pub row_of_run : ℕ → List ℕ → List ℤ → ℕ → Row
+row_of_run first keys payloads k =
+    row_with (record { 0 = first + k }) (record { 0 = slice_index_or keys k 0 }) (record { 0 = slice_index_or payloads k (pos 0) })
 
 -- so many rows, with serials from the first on, need no memory
 pub record HasRooms (first count : ℕ) (p : Inside) : Type 0 where

@@ -15,11 +15,6 @@ run_rows first (key ∷ keys) (payload ∷ payloads) =
     row_with (record { 0 = first }) (record { 0 = key }) (record { 0 = payload }) ∷ run_rows (suc first) keys payloads
 run_rows _ _ _ = []
 
--- the row at an index of a run, if both lists have one there
-abbrev pub row_in : ℕ → List ℕ → List ℤ → ℕ → Row
-row_in first keys payloads k =
-    row_with (record { 0 = first + k }) (record { 0 = slice_index_or keys k 0 }) (record { 0 = slice_index_or payloads k (pos 0) })
-
 -- the store after all rows were admitted, in order
 abbrev pub all_admitted : List Row → State → State
 all_admitted [] s = s

@@ -5,8 +5,8 @@ ghost use Rattle.crack_state.specs.State.{live_rows};
 ghost use Rattle.crack_state.specs.Steps.{admitted, IsAdmissible, SameButRoom};
 ghost use Rattle.crack_store.specs.Inside.{lists_of};
 ghost use Rattle.crack_store.specs.Keeps.{KeepsIntact};
-ghost use Rattle.crack_store.specs.Rooms.{HasRooms};
-ghost use Rattle.crack_store.specs.Runs.{run_rows, row_in, all_admitted, AreAdmissible};
+ghost use Rattle.crack_store.specs.Rooms.{HasRooms, row_of_run};
+ghost use Rattle.crack_store.specs.Runs.{run_rows, all_admitted, AreAdmissible};
 
 use crate::inside::Inside;
 use crack_arena::Remembered;
@@ -108,7 +108,7 @@ pub(crate) fn row_at_index(
     requires within { index < length keys.now }
     requires payloads { length payloads.now ≡ length keys.now }
     requires serials { first.0 + length keys.now < 2 ^ 64 }
-    ensures { result ≡ row_in first.0 keys.now payloads.now index }
+    ensures { result ≡ row_of_run first.0 keys.now payloads.now index }
 {
     let key = keys[index];
     let payload = payloads[index];
