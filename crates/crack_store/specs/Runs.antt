@@ -1,5 +1,5 @@
 -- A run of rows: their serials rise by one, and each is admitted after the one before it.
-use Rattle.std.specs.Prelude.{◌≡◌, ℕ, suc, ◌+◌, ◌<◌, ◌≤◌, ℤ, pos, List, [], ◌∷◌, length, None, slice_index_or}
+use Rattle.std.specs.Prelude.{◌≡◌, ℕ, suc, ◌+◌, ◌<◌, ◌≤◌, ℤ, List, [], ◌∷◌, length, None}
 use Rattle.std.specs.List.{All}
 use Rattle.crack_row.specs.Ranges.{IsIn}
 use Rattle.crack_row.specs.Rows.{row_with}

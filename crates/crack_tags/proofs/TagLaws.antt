@@ -4,7 +4,7 @@ use Rattle.crack_row.specs.declared.Payload.{Payload}
 use Rattle.crack_arena.specs.Arena.{Handle, no_handle}
 use Rattle.crack_arena.specs.Memories.{Memory, nothing}
 use Rattle.crack_tags.specs.declared.label.Label.{Label}
-use Rattle.crack_tags.specs.Tags.{handle_of, handles_of, memory_with, memories_of}
+use Rattle.crack_tags.specs.Tags.{handle_in_label, handles_of, memory_with, memories_of}
 
 pub length-handles_of : (ls : List Label) → length (handles_of ls) ≡ length ls
 length-handles_of [] = refl
@@ -31,7 +31,7 @@ memory_at_place (l ∷ ls) (p ∷ ps) (suc k) d e beside within = memory_at_plac
 pub set-handles_of : (ls : List Label) (k : ℕ) (l : Label) → handles_of (set ls k l) ≡ set (handles_of ls) k l.handle
 set-handles_of [] k l = refl
 set-handles_of (m ∷ ls) zero l = refl
-set-handles_of (m ∷ ls) (suc k) l = ap (λ (hs : List Handle). handle_of m ∷ hs) (set-handles_of ls k l)
+set-handles_of (m ∷ ls) (suc k) l = ap (λ (hs : List Handle). handle_in_label m ∷ hs) (set-handles_of ls k l)
 
 pub set-memories_of : (ls : List Label) (ps : List Payload) (k : ℕ) (l : Label) (p : Payload) → memories_of (set ls k l) (set ps k p) ≡ set (memories_of ls ps) k (memory_with l p)
 set-memories_of [] ps k l p = refl
@@ -44,12 +44,12 @@ set-memories_of (m ∷ ls) (q ∷ ps) (suc k) l p = ap (λ (ms : List Memory). m
 pub same-handles_of : (ls : List Label) (k : ℕ) (l d : Label) → k < length ls → l.handle ≡ (get_or ls k d).handle → handles_of (set ls k l) ≡ handles_of ls
 same-handles_of [] k l d within same = refl
 same-handles_of (m ∷ ls) zero l d within same = ap (λ (h : Handle). h ∷ handles_of ls) same
-same-handles_of (m ∷ ls) (suc k) l d within same = ap (λ (hs : List Handle). handle_of m ∷ hs) (same-handles_of ls k l d (omega (arith, within)) same)
+same-handles_of (m ∷ ls) (suc k) l d within same = ap (λ (hs : List Handle). handle_in_label m ∷ hs) (same-handles_of ls k l d (omega (arith, within)) same)
 
 pub take-handles_of : (n : ℕ) (ls : List Label) → handles_of (take n ls) ≡ take n (handles_of ls)
 take-handles_of zero ls = refl
 take-handles_of (suc n) [] = refl
-take-handles_of (suc n) (l ∷ ls) = ap (λ (hs : List Handle). handle_of l ∷ hs) (take-handles_of n ls)
+take-handles_of (suc n) (l ∷ ls) = ap (λ (hs : List Handle). handle_in_label l ∷ hs) (take-handles_of n ls)
 
 pub take-memories_of : (n : ℕ) (ls : List Label) (ps : List Payload) → memories_of (take n ls) (take n ps) ≡ take n (memories_of ls ps)
 take-memories_of zero ls ps = refl
@@ -59,7 +59,7 @@ take-memories_of (suc n) (l ∷ ls) (p ∷ ps) = ap (λ (ms : List Memory). memo
 
 pub append-handles_of : (ls ls' : List Label) → handles_of (ls ++ ls') ≡ handles_of ls ++ handles_of ls'
 append-handles_of [] ls' = refl
-append-handles_of (l ∷ ls) ls' = ap (λ (hs : List Handle). handle_of l ∷ hs) (append-handles_of ls ls')
+append-handles_of (l ∷ ls) ls' = ap (λ (hs : List Handle). handle_in_label l ∷ hs) (append-handles_of ls ls')
 
 pub append-memories_of : (ls ls' : List Label) (ps ps' : List Payload) → length ps ≡ length ls → memories_of (ls ++ ls') (ps ++ ps') ≡ memories_of ls ps ++ memories_of ls' ps'
 append-memories_of [] ls' [] ps' beside = refl

@@ -13,12 +13,12 @@ pub record Tagged : Type 0 where
   pub capacity : ℕ
 
 -- the handle of a label
-abbrev pub handle_of : Label → Handle
-handle_of l = l.handle
+abbrev pub handle_in_label : Label → Handle
+handle_in_label l = l.handle
 
 -- the handles of labels
 abbrev pub handles_of : List Label → List Handle
-handles_of labels = map handle_of labels
+handles_of labels = map handle_in_label labels
 
 -- what this label and this payload remember
 abbrev pub memory_with : Label → Payload → Memory
