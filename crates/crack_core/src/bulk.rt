@@ -1,5 +1,6 @@
 //! Many calls in one, with lists of the caller.
-ghost use Rattle.std.specs.Prelude.{◌≡◌, ◌<◌, ◌≤◌, ◌≤ℤ◌, ◌^◌, neg_ℤ, pos, ℕ, ◌+◌, length, slice_index_or, IfOk, IfErr, Ok, Err};
+ghost use Rattle.std.specs.Prelude.{◌≡◌, ◌<◌, ◌≤◌, ◌≤ℤ◌, ◌^◌, neg_ℤ, pos, ℕ, ◌+◌};
+ghost use Rattle.std.specs.Prelude.{length, slice_index_or, IfOk, IfErr, Ok, Err};
 ghost use Rattle.crack_core.specs.Asking.{Inserts, CountsRange, Sums};
 ghost use Rattle.crack_core.specs.Bulk.{Went, InsertsAt, DeletesAt, UpdatesAt, CountsAt, SumsAt, OverKeys};
 ghost use Rattle.crack_core.specs.Bulk.{Answered, of_halves, flag, key_in, payload_in, row_number};

@@ -1,7 +1,10 @@
 //! Lists of rows that one call inserts, beside the same rows inserted one by one into a second core.
 use crate::session::bounds_of;
 use crack_core::{Core, Progress};
-use crack_row::{GREATEST_CELLS, GREATEST_LIFE, Key, Limits, Payload, Refusal, RowNo, Upkeep};
+use crack_part::Partition;
+use crack_row::{
+    GREATEST_CELLS, GREATEST_LIFE, Key, KeyRange, Limits, Payload, Refusal, RowNo, Upkeep,
+};
 use std::alloc::Global;
 use std::process::Abort;
 
@@ -95,6 +98,14 @@ const CASES: &[Case] = &[
     },
 ];
 
+/// The most rows of a case.
+const MOST: usize = 20;
+
+/// The payloads of the rows of each case.
+const PAYLOADS: [i64; MOST] = [
+    0, -1, 2, -3, 4, -5, 6, -7, 8, -9, 10, -11, 12, -13, 14, -15, 16, -17, 18, -19,
+];
+
 /// A core for a case.
 fn core_of(rt: &impl Abort, alloc: Global, case: Case) -> Core {
     let [history, cells, life] = case.limits;
@@ -106,15 +117,6 @@ fn core_of(rt: &impl Abort, alloc: Global, case: Case) -> Core {
     };
     let splits = bounds_of(rt, alloc, case.splits);
     Core::open_with(alloc, &splits, limits).expect(rt, "a core")
-}
-
-/// The payloads of rows with these keys: their places in the list.
-fn payloads_of(rt: &impl Abort, alloc: Global, keys: &[u64]) -> Vec<i64> {
-    let mut payloads = Vec::new(alloc);
-    'keys: for place in 0..keys.len() {
-        assert!(rt; payloads.push(place as i64).is_ok());
-    }
-    payloads
 }
 
 /// Inserts a row. It has no contract, so that the test carries none.
@@ -137,16 +139,11 @@ fn insert_all(
 }
 
 /// Asserts that a core inserts the rows of a case one by one with these row numbers.
-fn assert_rows(
-    rt: &impl Abort,
-    core: &mut Core,
-    case: Case,
-    payloads: &[i64],
-    parts: &[u32],
-    serials: &[u64],
-) {
-    'rows: for place in 0..case.keys.len() {
-        let row = insert(core, case.keys[place], payloads[place]);
+fn assert_rows(rt: &impl Abort, core: &mut Core, case: Case, parts: &[u32], serials: &[u64]) {
+    let count = case.keys.len();
+    assert!(rt; count <= MOST && parts.len() == count && serials.len() == count);
+    'rows: for place in 0..count {
+        let row = insert(core, case.keys[place], PAYLOADS[place]);
         if place as u64 == case.done {
             assert!(rt; row.err() == case.refusal, "{}", case.name);
             return;
@@ -154,7 +151,8 @@ fn assert_rows(
         let row = row.expect(rt, "a row");
         assert!(rt;
             row.part == parts[place] && row.serial.0 == serials[place],
-            "{}", case.name
+            "{}",
+            case.name
         );
     }
 }
@@ -163,20 +161,24 @@ fn assert_rows(
 fn assert_case(rt: &impl Abort, alloc: Global, case: Case) {
     let mut core = core_of(rt, alloc, case);
     let mut single = core_of(rt, alloc, case);
-    let payloads = payloads_of(rt, alloc, case.keys);
-    let mut parts = [99u32; 20];
-    let mut serials = [99u64; 20];
+    let mut parts = [99u32; MOST];
+    let mut serials = [99u64; MOST];
     let count = case.keys.len();
+    assert!(rt; count <= MOST);
     let progress = insert_all(
         rt,
         &mut core,
         case.keys,
-        &payloads,
+        &PAYLOADS[..count],
         &mut parts[..count],
         &mut serials[..count],
     );
-    assert!(rt; progress.done == case.done && progress.refusal == case.refusal, "{}", case.name);
-    assert_rows(rt, &mut single, case, &payloads, &parts, &serials);
+    assert!(rt;
+        progress.done == case.done && progress.refusal == case.refusal,
+        "{}",
+        case.name
+    );
+    assert_rows(rt, &mut single, case, &parts[..count], &serials[..count]);
     drop(core);
     drop(single);
 }
@@ -186,4 +188,21 @@ fn many_rows_are_inserted_as_single_ones(rt: HostRuntime) {
     'cases: for place in 0..CASES.len() {
         assert_case(&rt, rt.alloc(), CASES[place]);
     }
+}
+
+/// Inserts the rows of a run. It has no contract, so that the test carries none.
+fn run(rt: &impl Abort, part: &mut Partition, keys: &[u64]) -> Result<usize, Refusal> {
+    assert!(rt; keys.len() <= MOST);
+    part.insert_run(keys, &PAYLOADS[..keys.len()])
+}
+
+#[test]
+fn a_run_takes_the_rows_that_it_may(rt: HostRuntime) {
+    let keys = KeyRange::new(0, 100).expect(&rt, "a range");
+    let mut part = Partition::open(rt.alloc(), keys, 8).expect(&rt, "a partition");
+    assert!(rt; run(&rt, &mut part, &[5, 3, 9, 100, 1]) == Ok(3));
+    assert!(rt; run(&rt, &mut part, &[100]) == Ok(0));
+    assert!(rt; run(&rt, &mut part, &[1, 2, 3, 4, 5, 6, 7]) == Ok(5));
+    assert!(rt; run(&rt, &mut part, &[1]) == Ok(0));
+    drop(part);
 }
