@@ -195,13 +195,16 @@ impl Core {
             (length parts.now) self.old.parts result self.new.parts }
         ensures opened { (self.new.splits ≡ self.old.splits) × (self.new.limits ≡ self.old.limits) }
     {
+        let mut seen = 0;
         'rows: for i in 0..parts.len() {
+            seen ^= self.look_ahead(parts, serials, i);
             let row = row_of(parts[i], serials[i]);
             match self.delete(row) {
                 Ok(went) => gone[i] = flag(went.is_some()),
                 Err(refusal) => return Progress::stopped(i, refusal),
             }
         }
+        self.keep_reads(seen);
         Progress::whole(parts.len())
     }
 
@@ -223,7 +226,9 @@ impl Core {
             found.new) (length parts.now) self.old.parts result self.new.parts }
         ensures opened { (self.new.splits ≡ self.old.splits) × (self.new.limits ≡ self.old.limits) }
     {
+        let mut seen = 0;
         'rows: for i in 0..parts.len() {
+            seen ^= self.look_ahead(parts, serials, i);
             let row = row_of(parts[i], serials[i]);
             let key = Key::from_number(keys[i]);
             let payload = payloads[i];
@@ -232,6 +237,7 @@ impl Core {
                 Err(refusal) => return Progress::stopped(i, refusal),
             }
         }
+        self.keep_reads(seen);
         Progress::whole(parts.len())
     }
 

@@ -49,6 +49,8 @@ pub struct Core {
     splits: Vec<Bound>,
     limits: Limits,
     pub(crate) partitions: Vec<Partition>,
+    /// What was read ahead. It is kept so that the compiler doesn't leave the reads out; nothing depends on it.
+    pub(crate) reads: u64,
 }
 
 impl Model for Core {
@@ -105,6 +107,7 @@ impl Core {
             splits: kept,
             limits,
             partitions,
+            reads: 0,
         })
     }
 

@@ -1,6 +1,7 @@
 //! Partitions by key range, asked by one thread.
 #![tactic(auto)]
 
+mod ahead;
 pub mod asking;
 pub mod bulk;
 pub mod cores;

@@ -9,6 +9,7 @@ ghost use Rattle.crack_plain.specs.Plain.{PlainState, IsNumbered, reply_to, afte
 ghost use Rattle.crack_state.specs.State.{State, IsIntact};
 ghost use Rattle.crack_state.specs.Steps.{SameButRoom};
 ghost use Rattle.crack_state.specs.Merge.{IsSettled};
+ghost use Rattle.crack_state.specs.Points.{row_by};
 ghost use Rattle.crack_store.specs.Inside.{no_cells, IsLayoutOf};
 ghost use Rattle.crack_part.specs.Parts.{state_of, table_of, folded_part, IsLimit, IsSound, IsFaithful};
 ghost use Rattle.crack_part.specs.Parts.{CracksAndMerges, StopsAt};
@@ -195,6 +196,15 @@ impl Partition {
             return Some(Refusal::NoCell);
         }
         None
+    }
+
+    /// The row with this serial; `None` if there is none. Cracks and merges nothing, and isn't counted as a command.
+    /// O(1).
+    #[inline(always)]
+    pub fn row_of(&self, serial: Serial) -> Option<Row>
+        ensures { result ≡ row_by self.now.store serial.0 }
+    {
+        self.store.row_of(serial)
     }
 
     /// Whether a checkpoint is made before the next command that is answered.

@@ -25,7 +25,7 @@ rows-preserved c =
     }
 
 pub returns-clause-deletes : goal.returns-clause-deletes
-returns-clause-deletes c = rw c.whole.ensures (went-whole _ _ (length c.args.parts.now) c.rows.i _ c.rows-test.false c.rows.auto.i-end c.rows.invariant.so_far)
+returns-clause-deletes c = rw (c.whole.ensures, c.keep_reads.ensures) (went-whole _ _ (length c.args.parts.now) c.rows.i _ c.rows-test.false c.rows.auto.i-end c.rows.invariant.so_far)
 
 pub returns-clause-opened : goal.returns-clause-opened
-returns-clause-opened c = c.rows.invariant.opened
+returns-clause-opened c = rw c.keep_reads.ensures c.rows.invariant.opened
