@@ -48,7 +48,7 @@ arena_code {T} code =
 abbrev pub empty_cell : {T : Type 0} → Cell T
 empty_cell = record { generation = 0; value = None }
 
--- the cell with this number
+-- the cell with this number, or an empty cell if there is none
 abbrev pub cell_at : {T : Type 0} → List (Cell T) → ℕ → Cell T
 cell_at cells n = slice_index_or cells n empty_cell
 
@@ -118,12 +118,12 @@ abbrev pub handle_for : {T : Type 0} → List (Cell T) → List ℕ → Handle
 handle_for cells [] = record { slot = length cells; generation = 0 }
 handle_for cells (n ∷ ns) = record { slot = n; generation = (cell_at cells n).generation }
 
--- the cells after a value was put
+-- the cells after a value was put into the first free cell, or else into a new one
 abbrev pub cells_with : {T : Type 0} → T → List (Cell T) → List ℕ → List (Cell T)
 cells_with v cells [] = cells ++ record { generation = 0; value = Some v } ∷ []
 cells_with v cells (n ∷ ns) = slice_set cells n (record { generation = (cell_at cells n).generation; value = Some v })
 
--- the arena after a value was put
+-- the arena after a value was put into the first free cell, or else into a new one
 abbrev pub put_in : {T : Type 0} → T → Arena T → Arena T
 put_in v a = record { cells = cells_with v a.cells a.free; free = drop 1 a.free; room = a.room - 1 }
 
@@ -153,7 +153,7 @@ after_call (Set h v) a = cond (is_some (read a.cells h)) (set_at v h a) a
 after_call (Free h) a = cond (is_some (read a.cells h)) (freed_at h a) a
 after_call (Reserve n) a = a
 
--- the arena after calls in order, without those that were refused
+-- the arena after these calls, in order; calls that were refused aren't listed
 abbrev pub after_calls : {T : Type 0} → List (ArenaCall T) → Arena T → Arena T
 after_calls [] a = a
 after_calls (c ∷ cs) a = after_calls cs (after_call c a)

@@ -5,6 +5,7 @@ use Rattle.crack_arena.specs.declared.TheConstants.{MOST_CELLS}
 use Rattle.crack_arena.specs.Arena.{Handle, no_handle, times}
 use Rattle.crack_arena.specs.Links.{is_taken_word, chain}
 
+-- whether this is the word of a free cell
 abbrev pub is_vacant : Handle → Bool
 is_vacant word = not (is_taken_word word)
 
@@ -12,6 +13,7 @@ is_vacant word = not (is_taken_word word)
 abbrev pub vacancy : Handle → ℕ
 vacancy word = cond (is_vacant word) 1 0
 
+-- 1 if there is a cell with this number and it is free, otherwise 0
 abbrev pub vacant_at : List Handle → ℕ → ℕ
 vacant_at words n = cond (nat_lt n (length words)) (vacancy (slice_index_or words n no_handle)) 0
 

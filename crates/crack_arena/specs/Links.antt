@@ -7,8 +7,8 @@ use Rattle.crack_arena.specs.Arena.{Cell, Handle, no_handle}
 abbrev pub is_taken_word : Handle → Bool
 is_taken_word word = word.slot == 16777215
 
--- the number of the free cell after this one: this cell's word stores how many numbers lie between the two, if 0
--- follows the greatest number
+-- the number of the free cell after this one: this cell's word stores how many numbers lie between the two,
+-- counted upwards, where 0 follows the greatest 24-bit number
 abbrev pub next_after : List Handle → ℕ → ℕ
 next_after words n = (n + 1 + (slice_index_or words n no_handle).slot) % 16777216
 

@@ -14,7 +14,7 @@ pub record Memory : Type 0 where
 abbrev pub nothing : Memory
 nothing = record { key = unknown; payload = no_payload }
 
--- the key and payload of the row that the handle reads
+-- the key and payload of the row that the handle reads, both 0 if it reads none
 abbrev pub memory_at : List (Cell Row) → Handle → Memory
 memory_at cells h = record { key = key_at cells h; payload = payload_at cells h }
 
@@ -22,7 +22,7 @@ memory_at cells h = record { key = key_at cells h; payload = payload_at cells h 
 abbrev pub Agrees : List (Cell Row) → Handle → Memory → Type 0
 Agrees cells h m = (m.key ≡ unknown) ⊎ (m ≡ memory_at cells h)
 
--- what is remembered about each handle's row agrees with the row
+-- each handle's row is unknown, or its key and payload are remembered correctly at the handle's place
 pub record Remembers (cells : List (Cell Row)) (handles : List Handle) (remembered : List Memory) : Type 0 where
   pub beside : length remembered ≡ length handles
   pub right : (k : ℕ) (d : Handle) → k < length handles → Agrees cells (slice_index_or handles k d) (slice_index_or remembered k nothing)

@@ -11,7 +11,7 @@ abbrev pub key_of_row : Option Row → ℕ
 key_of_row None = 0
 key_of_row (Some r) = r.key.0
 
--- the key of the row that the handle reads
+-- the key of the row that the handle reads, or 0 if it reads none
 abbrev pub key_at : List (Cell Row) → Handle → ℕ
 key_at cells h = key_of_row (read cells h)
 
@@ -24,16 +24,16 @@ abbrev pub payload_of_row : Option Row → Payload
 payload_of_row None = no_payload
 payload_of_row (Some r) = r.payload
 
--- the payload of the row that the handle reads
+-- the payload of the row that the handle reads, or 0 if it reads none
 abbrev pub payload_at : List (Cell Row) → Handle → Payload
 payload_at cells h = payload_of_row (read cells h)
 
--- the amount that a row that was read adds to a sum, 0 if none was
+-- what the row that was read adds to a sum: its payload, or 0 if none was
 abbrev pub amount_of_row : Option Row → ℤ
 amount_of_row None = pos 0
 amount_of_row (Some r) = amount r.payload
 
--- the amount that the row that the handle reads adds to a sum
+-- what the row that the handle reads adds to a sum, or 0 if it reads none
 abbrev pub amount_at : List (Cell Row) → Handle → ℤ
 amount_at cells h = amount_of_row (read cells h)
 

@@ -106,7 +106,8 @@ impl<T: Copy> Arena<T> {
         let _ = &self.cells;
     }
 
-    /// States that no calls make a spent handle valid again. Does nothing at run time.
+    /// States that a spent handle, one whose cell was freed after it was made, reads nothing after any further
+    /// calls. Does nothing at run time.
     pub fn stays_spent(&self, handle: Handle<T>)
         requires { IsSpent self.now.cells handle }
         ensures { (calls : List (ArenaCall T)) → read (after_calls calls self.now).cells handle ≡ None }
@@ -129,7 +130,8 @@ impl<T: Copy> Arena<T> {
         }
     }
 
-    /// The adjacent cells from this number to the end of its page, at most 256; none from `cells()` on. O(1).
+    /// The adjacent cells from this number to the end of its page, at most 256; none if the number is `cells()` or
+    /// more. O(1).
     pub fn cells_from(&self, slot: u32) -> CellRun<'_, T>
         ensures cells { result ≡ take (length result) (drop slot self.now.cells) }
         ensures some { slot < length self.now.cells → 0 < length result }
@@ -137,7 +139,8 @@ impl<T: Copy> Arena<T> {
         CellRun::of(self.cells.side_by_side(slot as usize))
     }
 
-    /// Makes room for this many puts, which then take no memory. Refused with `OutOfMemory` if no memory is found.
+    /// Makes room for this many puts, which then take no memory. O(1), except for growth. Refused with
+    /// `OutOfMemory` if no memory is found; then nothing has changed.
     pub fn reserve(&mut self, additional: usize) -> Result<(), Refusal>
         ensures same { self.new ≡ record self.old { room = self.new.room } }
         ensures room { OnOk result (additional ≤ self.new.room) }
@@ -171,7 +174,7 @@ impl<T: Copy> Arena<T> {
         Ok(self.put_reserved(value))
     }
 
-    /// Makes room for one put. O(1), except for growth.
+    /// Makes room for one put. O(1), except for growth. Refused if no memory is found; then nothing has changed.
     #[inline(always)]
     fn reserve_one(&mut self) -> Result<(), Refusal>
         ensures same { self.new ≡ record self.old { room = self.new.room } }
@@ -274,7 +277,8 @@ impl<T: Copy> Arena<T> {
     }
 }
 
-/// How many numbers lie between `from` and `head`, if 0 follows the greatest number; 0 if no cell is free.
+/// How many cell numbers lie between `from` and `head`, counted upwards, where 0 follows the greatest 24-bit
+/// number; 0 if `free`, the number of free cells, is 0.
 fn numbers_between(from: u32, head: u32, free: usize) -> u32
     requires from { from < 16777216 }
     requires head { 0 < free → (head < 16777216) × (head ≢ from) }

@@ -10,7 +10,7 @@ use crate::page::{CELLS, Page};
 use std::alloc::{AllocError, Global};
 use std::marker::Model;
 
-/// A full list of pages grows by this factor, so that growth copies little.
+/// A full list of pages grows by this many times its length, so that growth copies little.
 const GROWTH: usize = 3;
 
 /// Cells numbered from 0, with room for more. Cell n is cell n mod 256 of page n / 256.
@@ -68,7 +68,7 @@ impl<C> CellList<C> {
         }
     }
 
-    /// The adjacent cells from this number to the end of its page; none from `len()` on.
+    /// The adjacent cells from this number to the end of its page; none if the number is `len()` or more. O(1).
     pub(crate) fn side_by_side(&self, number: usize) -> &[C]
         ensures cells { result.now ≡ take (length result.now) (drop number self.now.items) }
         ensures some { number < length self.now.items → 0 < length result.now }
@@ -99,7 +99,8 @@ impl<C> CellList<C> {
         page.replace(number % CELLS, cell)
     }
 
-    /// Makes room for this many more cells. O(1), except for growth.
+    /// Makes room for this many more cells. O(1), except for growth. Refused if no memory is found; then nothing
+    /// has changed.
     #[inline(always)]
     pub(crate) fn reserve(&mut self, additional: usize) -> Result<(), AllocError>
         ensures items { self.new.items ≡ self.old.items }
@@ -130,7 +131,8 @@ impl<C> CellList<C> {
     }
 }
 
-/// The number of pages that hold `additional` more cells after `used` cells of the first page.
+/// The number of pages that `used` and `additional` cells fill together. Their sum, which may overflow, isn't
+/// computed.
 fn pages_for(used: usize, additional: usize) -> usize
     requires { used < 256 }
     ensures enough { used + additional ≤ 256 * result }

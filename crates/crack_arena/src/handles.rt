@@ -76,6 +76,7 @@ impl<T> Handle<T> {
         Handle::of(Word::new(slot.number(), generation.number()))
     }
 
+    /// The handle with the number and the generation of this word.
     #[inline(always)]
     pub(crate) fn of(word: Word) -> Handle<T>
         ensures { result ≡ word }

@@ -29,7 +29,7 @@ impl<C> Model for Page<C> {
 }
 
 impl<C> Page<C> {
-    /// Allocates a page without cells.
+    /// Allocates a page without cells. Refused if no memory is found.
     pub(crate) fn take(alloc: Global) -> Result<Page<C>, AllocError>
         ensures { IfOk result (λ page. page ≡ []) }
     {

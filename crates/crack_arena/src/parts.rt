@@ -48,6 +48,7 @@ impl Slot {
         }
     }
 
+    /// The slot of the handle with this word.
     #[inline(always)]
     pub(crate) fn of(word: Word) -> Slot
         ensures { result ≡ word.slot }
@@ -99,6 +100,7 @@ impl Clone for Generation {
 }
 
 impl Generation {
+    /// The generation of the handle with this word.
     #[inline(always)]
     pub(crate) fn of(word: Word) -> Generation
         ensures { result ≡ word.generation }

@@ -16,7 +16,7 @@ pub fn key_of(arena: &Arena<Row>, handle: Handle<Row>) -> Key
     }
 }
 
-/// The amount that the row that the handle reads adds to a sum, or 0 if it reads none. O(1).
+/// What the row that the handle reads adds to a sum: its payload, or 0 if the handle reads none. O(1).
 pub fn amount_of(arena: &Arena<Row>, handle: Handle<Row>) -> i128
     ensures value { result ≡ amount_at arena.now.cells handle }
     ensures least { neg_ℤ (pos farthest_amount) ≤ℤ result }

@@ -75,6 +75,7 @@ impl Word {
         }
     }
 
+    /// The number in the low 24 bits.
     #[inline(always)]
     pub(crate) fn number(&self) -> u32
         ensures value { result ≡ self.now.slot }
@@ -83,6 +84,7 @@ impl Word {
         (self.bits % NUMBERS as u64) as u32
     }
 
+    /// The generation, in the upper 40 bits.
     #[inline(always)]
     pub(crate) fn generation(&self) -> u64
         ensures value { result ≡ self.now.generation }

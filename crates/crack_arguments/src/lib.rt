@@ -12,7 +12,7 @@ use thiserror::Error;
 /// The version of the program, as `--version` prints it.
 pub const VERSION: &str = "0.1.0";
 
-/// The option that explains errors, at any place of a command line.
+/// The option that explains errors, anywhere on a command line.
 const WORDS: &str = "--words";
 
 /// The request of a command line.
@@ -47,7 +47,7 @@ pub struct Opening {
 pub struct Staffed {
     pub opening: Opening,
     pub workers: u64,
-    /// Whether the workers keep receipts of their replies, which are compared with the histories at the end.
+    /// Whether the workers keep receipts of their replies, which are compared with partitions' entries at the end.
     pub is_audited: bool,
 }
 
@@ -69,7 +69,7 @@ pub struct Service {
     pub drain: u32,
     /// Whether only refusals are written to standard error.
     pub is_quiet: bool,
-    /// Whether the workers keep receipts of their replies, which are compared with the histories at the end.
+    /// Whether the workers keep receipts of their replies, which are compared with partitions' entries at the end.
     pub is_audited: bool,
 }
 
@@ -122,12 +122,14 @@ const MOST_CLIENTS: u64 = 1000000;
 /// How many seconds a server waits at its end for busy connections without `--drain`.
 const DEFAULT_DRAIN: u64 = 10;
 
+/// The option `--workers` of a batch.
 const WORKERS: Choice = Choice(
     "workers",
     Value::Required("W"),
     "How many workers, each on its own thread: 1 to 64",
 );
 
+/// The options of an opening but its policy.
 static OPENING_CHOICES: [Choice; 4] = [
     Choice(
         "limit",
@@ -209,6 +211,7 @@ static WORDS_CHOICE: Choice = Choice(
     "Explains errors in words, on standard error",
 );
 
+/// The parser's option for a choice.
 fn option_of<'a>(alloc: Global, choice: &Choice) -> Arg<'a> {
     let Choice(name, value, help) = choice;
     let option = Arg::new(alloc, name).long(name).help(help);
@@ -219,6 +222,7 @@ fn option_of<'a>(alloc: Global, choice: &Choice) -> Arg<'a> {
     }
 }
 
+/// Gives an option a value: a number of 64 bits, which the help calls `word`.
 fn number_option<'a>(option: Arg<'a>, word: &'a str) -> Arg<'a> {
     option.value_name(word).value_parser(value_parser!(u64))
 }
@@ -257,6 +261,7 @@ fn with_subcommand<'a>(built: Built<'a>, subcommand: Built<'a>) -> Built<'a> {
     }
 }
 
+/// Adds a subcommand that is being built to a command.
 fn joined<'a>(command: Command<'a>, subcommand: Built<'a>) -> Built<'a> {
     match subcommand {
         Ok(subcommand) => command.subcommand(subcommand),
@@ -267,6 +272,7 @@ fn joined<'a>(command: Command<'a>, subcommand: Built<'a>) -> Built<'a> {
     }
 }
 
+/// The option `--policy`.
 fn policy_option<'a>(alloc: Global) -> Arg<'a> {
     Arg::new(alloc, "policy")
         .long("policy")
@@ -276,6 +282,7 @@ fn policy_option<'a>(alloc: Global) -> Arg<'a> {
         .help("complete, gradual, ripple or auto [default: ripple]")
 }
 
+/// The values that belong to no option: the splits.
 fn split_values<'a>(alloc: Global) -> Arg<'a> {
     Arg::new(alloc, "splits")
         .value_name("SPLIT")
@@ -285,7 +292,7 @@ fn split_values<'a>(alloc: Global) -> Arg<'a> {
         .help("First keys of partitions: rising, 1 to 2^64 - 1; 63 at most")
 }
 
-/// A subcommand with the options and splits of an opening.
+/// A subcommand with the options and splits of an opening. Its help ends with the text `behind`.
 fn opening_command<'a>(alloc: Global, name: &'a str, about: &'a str, behind: &'a str) -> Built<'a> {
     let bare = Command::new(alloc, name).about(about).after_help(behind);
     let limited = with_options(alloc, Ok(bare), OPENING_CHOICES.as_slice());
@@ -349,6 +356,7 @@ fn command_line<'a>(alloc: Global) -> Built<'a> {
     with_subcommand(with_serve, csv_command(alloc))
 }
 
+/// The policy on the command line, or `Ripple` if there is none.
 fn policy_of(matches: &ArgMatches<'_>) -> Policy {
     match matches.get_str("policy") {
         Some("complete") => Policy::Complete,
@@ -358,6 +366,7 @@ fn policy_of(matches: &ArgMatches<'_>) -> Policy {
     }
 }
 
+/// The splits on the command line, in order. An error if one isn't a number of 64 bits, or if no memory is found.
 fn splits_of(alloc: Global, matches: &ArgMatches<'_>) -> Result<Vec<Bound>, ArgumentsError> {
     let mut splits = Vec::new(alloc);
     if let Some(found) = matches.get_many::<u64>("splits") {
@@ -402,7 +411,7 @@ fn opening_of(alloc: Global, matches: &ArgMatches<'_>) -> Result<Opening, Argume
     })
 }
 
-/// The number of a required option. An error if it is missing or no number of 64 bits.
+/// The number of a required option. An error if it is missing or isn't a number of 64 bits.
 fn number_of(matches: &ArgMatches<'_>, name: &str) -> Result<u64, ArgumentsError> {
     matches.get_one::<u64>(name).ok_or(ArgumentsError::Bad)
 }
@@ -415,6 +424,7 @@ fn port_of(matches: &ArgMatches<'_>) -> Result<u16, ArgumentsError> {
     }
 }
 
+/// The options of a batch.
 fn staffed_of(alloc: Global, matches: &ArgMatches<'_>) -> Result<Staffed, ArgumentsError> {
     Ok(Staffed {
         workers: number_of(matches, "workers")?,
@@ -423,7 +433,8 @@ fn staffed_of(alloc: Global, matches: &ArgMatches<'_>) -> Result<Staffed, Argume
     })
 }
 
-/// The number of sessions, or `None` to serve until the input ends. Exactly one of the two options must be given.
+/// The number of sessions, or `None` to serve until the input ends. An error unless exactly one of `--sessions` and
+/// `--until-eof` is given.
 fn sessions_of(matches: &ArgMatches<'_>) -> Result<Option<u64>, ArgumentsError> {
     let sessions = matches.get_one::<u64>("sessions");
     if sessions.is_some() == matches.get_flag("until-eof") {
@@ -457,6 +468,7 @@ fn idle_of(matches: &ArgMatches<'_>) -> Result<Option<u32>, ArgumentsError> {
     }
 }
 
+/// The options of a server. An error if one is missing or out of range.
 fn service_of(alloc: Global, matches: &ArgMatches<'_>) -> Result<Service, ArgumentsError> {
     Ok(Service {
         port: port_of(matches)?,
@@ -487,6 +499,7 @@ fn csv_of(alloc: Global, matches: &ArgMatches<'_>) -> Result<Request, ArgumentsE
     Ok(Request::Csv(opening_of(alloc, matches)?))
 }
 
+/// The request of a parsed command line. An error if a value is missing or out of range.
 fn request_of(alloc: Global, matches: &ArgMatches<'_>) -> Result<Request, ArgumentsError> {
     let Some((name, found)) = matches.subcommand() else {
         return Err(ArgumentsError::Bad);
@@ -506,7 +519,7 @@ pub fn asks_for_words(words: &[String]) -> bool {
 }
 
 /// The outcome of a command line without matches: the text of the help or the version, if it was requested, or the
-/// error.
+/// error, which is explained if `in_words`.
 fn unmatched(
     alloc: Global,
     error: &clap::Error,

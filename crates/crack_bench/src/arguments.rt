@@ -5,7 +5,7 @@ use std::alloc::Global;
 use std::num::ParseIntError;
 use std::str::FromStr;
 
-/// The policy with this name.
+/// The policy with this name, or `None` if there is none.
 pub fn policy_of(name: &str) -> Option<Policy> {
     match name {
         "complete" => Some(Policy::Complete),
@@ -16,7 +16,7 @@ pub fn policy_of(name: &str) -> Option<Policy> {
     }
 }
 
-/// Parses numbers, each of which must fit its type.
+/// Parses each word as a number. An error if one isn't a number of the type `N`.
 pub fn numbers_of<N: FromStr<Err = ParseIntError> + Drop>(
     alloc: Global,
     words: &[&str],

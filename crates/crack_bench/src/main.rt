@@ -67,6 +67,7 @@ fn run<R: Host>(rt: &R, words: &[&str]) -> anyhow::Result<()> {
     }
 }
 
+/// Carries out the runs of `ALL`, until one fails.
 fn run_all<R: Host>(rt: &R) -> anyhow::Result<()> {
     'runs: for words in ALL {
         run(rt, words)?;

@@ -22,6 +22,7 @@ impl<R: Output + Threads + Wait + Sync> Host for R {}
 #[derive(Drop)]
 pub enum Failure {
     Refused(Refusal),
+    /// A write failed, or the clock couldn't be read.
     Unwritten(io::Error),
 }
 
@@ -40,7 +41,8 @@ impl From<io::Error> for Failure {
     }
 }
 
-/// Writes how long a part took. Returns the time at which the next part begins.
+/// Writes how long a part took that began at `since`, under this name, to standard error. Returns the time at which
+/// the next part begins.
 pub fn report<R: Output>(rt: &R, name: &str, since: Instant) -> io::Result<Instant> {
     let nanoseconds = since.elapsed(rt)?.as_nanos();
     eprintln!(rt; "{name} {nanoseconds}")?;

@@ -10,7 +10,8 @@ use std::{mem, thread};
 
 /// What answers commands: a worker of a table, or partitions that are asked directly.
 pub trait Asks {
-    /// Executes a command on one partition. Refused with `NoSuchPartition` if there is no such partition.
+    /// Executes a command on one partition. Refused with `NoSuchPartition` if there is no such partition, and as the
+    /// partition or the table refuses it.
     fn ask(&mut self, part: u32, command: Command) -> Result<Reply, Refusal>;
 }
 
@@ -26,7 +27,8 @@ pub fn number_of(reply: &Reply) -> u64 {
 
 /// A worker of a table.
 pub trait Works: Asks {
-    /// Makes a checkpoint of a partition. Returns how many commands the partition accepted since the last one.
+    /// Makes a checkpoint of a partition. Returns how many commands the partition had accepted since its previous
+    /// one.
     fn checkpoint(&mut self, part: u32) -> Result<u64, Refusal>;
 }
 
@@ -68,8 +70,8 @@ pub struct Hand<A, Q> {
 }
 
 impl<A: Works, Q: Questions> Hand<A, Q> {
-    /// Has the worker ask its next `count` questions. It is taken by value, so that meanwhile only its own thread
-    /// writes near it.
+    /// Has the worker ask its next `count` questions. The hand is taken by value, so that only its own thread
+    /// writes near it in memory.
     fn worked(mut self, count: u64) -> Hand<A, Q> {
         self.questions.ask_next(&mut self.worker, count);
         self

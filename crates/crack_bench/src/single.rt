@@ -19,7 +19,8 @@ use crate::single::partition::Sizes;
 use crate::single::steps::kind_of;
 use crack_row::Policy;
 
-/// Carries out the measurement of a partition with this name and this many numbers, if there is one.
+/// Carries out a partition's measurement with this name. `None` if there is none, or if it takes more or fewer
+/// numbers.
 fn measured_partition<R: Output>(
     rt: &R,
     name: &str,
@@ -39,7 +40,7 @@ fn measured_partition<R: Output>(
     Some(steps::measure(rt, kind, policy, sizes))
 }
 
-/// Carries out the measurement with this name, policy and numbers, if there is one.
+/// Carries out the measurement with this name, policy and numbers. `None` if there is none.
 fn measured<R: Output>(
     rt: &R,
     name: &str,

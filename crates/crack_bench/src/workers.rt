@@ -3,8 +3,8 @@
 //! or `crack_bench workers gathered|folded|loaded WORKERS ROWS`.
 //!
 //! ROWS is the number of rows of each partition; each worker has two partitions. A step has four statements. The
-//! table has an audit, so its workers keep receipts, unless `unaudited` follows `workers`, which `bare` doesn't
-//! take.
+//! table has an audit, so its workers keep receipts, unless `unaudited` follows `workers`; `bare`, which has no
+//! table, isn't accepted after it.
 
 mod bare;
 mod measuring;
@@ -15,7 +15,7 @@ use crate::arguments::numbers_of;
 use crate::report::{Host, Outcome, explained};
 use crate::workers::measuring::{End, Run, Sharing, Work};
 
-/// The run with this name and these numbers.
+/// The run with this name and these numbers, or `None` if there is none.
 fn run_of(name: &str, numbers: &[u32]) -> Option<Run> {
     let (workers, rows, sharing, work) = match (name, numbers) {
         ("ask", [rows, steps]) => (1, *rows, Sharing::Own, Work::Alone { steps: *steps }),
@@ -53,7 +53,7 @@ fn run_of(name: &str, numbers: &[u32]) -> Option<Run> {
     })
 }
 
-/// Carries out the measurement with this name and these numbers, if there is one.
+/// Carries out the measurement with this name and these numbers. `None` if there is none.
 fn measured<R: Host>(rt: &R, is_audited: bool, name: &str, numbers: &[u32]) -> Option<Outcome> {
     match (is_audited, name, numbers) {
         (true, "bare", [rows, steps]) => Some(bare::run(rt, *rows, *steps)),

@@ -20,7 +20,7 @@ pub record Column : Type 0 where
   pub room : ℕ
   pub aside : List Aside
 
--- the default without a handle aside
+-- the default if no handle is aside
 abbrev pub no_aside : Aside
 no_aside = record { handle = no_handle; memory = record { key = 0; payload = no_payload } }
 
@@ -32,7 +32,7 @@ first_aside c = slice_index_or c.aside 0 no_aside
 abbrev pub standing_at : ℕ → Column → Aside
 standing_at place c = record { handle = slice_index_or c.handles place no_handle; memory = slice_index_or c.remembered place nothing }
 
--- the column with another handle aside
+-- the column with this handle aside, in place of the one that was aside
 abbrev pub with_aside : Aside → Column → Column
 with_aside a c = record c { aside = a ∷ drop 1 c.aside }
 

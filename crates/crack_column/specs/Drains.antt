@@ -8,7 +8,7 @@ use Rattle.crack_column.specs.declared.draining.Doomed.{Doomed}
 use Rattle.crack_column.specs.Column.{Column}
 use Rattle.crack_column.specs.Sifts.{one_if_some}
 
--- the last element moves to the front
+-- the list after its last element moved to the front
 abbrev pub turned_back : {X : Type 0} → List X → List X
 turned_back rows = drop (length rows - 1) rows ++ take (length rows - 1) rows
 
@@ -16,11 +16,11 @@ turned_back rows = drop (length rows - 1) rows ++ take (length rows - 1) rows
 abbrev pub place_of : Handle → List Handle → ℕ
 place_of handle rows = position_or_len (λ h. same_handle h handle) rows
 
--- the handle is removed, and the last one takes its place
+-- the list without this handle, whose place the last one takes
 abbrev pub without : Handle → List Handle → List Handle
 without handle rows = take (length rows - 1) (slice_set rows (place_of handle rows) (slice_index_or rows (length rows - 1) no_handle))
 
--- 1 if the handle is there before the last one, otherwise 0
+-- 1 if the handle is in the list and isn't the last one, otherwise 0
 abbrev pub one_unless_last : Handle → List Handle → ℕ
 one_unless_last handle rows = cond (nat_lt (place_of handle rows + 1) (length rows)) 1 0
 
@@ -45,7 +45,7 @@ module _ {D : Type 0} (key : D → ℕ) (handle : D → Handle) where
   drawn low own [] rows = 0
   drawn low own (d ∷ ds) rows = drawn_once low own d rows + drawn low own ds (drained_once low own d rows)
 
--- whether a key is below a bound, if there is one
+-- whether a key is below a bound; true if there is no bound
 abbrev pub is_under : Option InnerBound → ℕ → Bool
 is_under None key = true
 is_under (Some bound) key = nat_lt key bound.0
@@ -63,7 +63,7 @@ doomed_key d = d.key
 abbrev pub doomed_handle : Doomed → Handle
 doomed_handle d = d.handle
 
--- a piece with these bounds, after the pulls of doomed rows
+-- these rows of a piece with these bounds, after the pulls of the doomed rows, in order
 abbrev pub left_drained : ℕ → Option InnerBound → List Doomed → List Handle → List Handle
 left_drained low high ds rows = drained doomed_key doomed_handle low (λ d. is_under high d.key) ds rows
 

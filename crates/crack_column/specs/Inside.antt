@@ -32,10 +32,11 @@ tag_for h m = record { key = m.key; payload = m.payload; handle = h }
 abbrev pub forgotten : Tag → Tag
 forgotten t = record t { key = unknown; payload = no_payload }
 
+-- the default tag for places outside a list
 abbrev pub no_tag : Tag
 no_tag = record { key = 0; payload = no_payload; handle = no_handle }
 
--- the tag is at the place, and the others are where they were; at the end of the list it comes after them
+-- the tags with this one at the place, instead of the one there, or after the last one
 abbrev pub tag_put_at : List Tag → ℕ → Tag → List Tag
 tag_put_at ts place t = take place ts ++ t ∷ drop (place + 1) ts
 

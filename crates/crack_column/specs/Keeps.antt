@@ -19,7 +19,8 @@ pub record IsSoundColumn (tags : List Tag) (len unread : ℕ) : Type 0 where
   pub few : length tags ≤ 2 ^ 32
   pub counted : unread_in (take len tags) ≡ unread
 
--- a tag is stored after the column's `len`, and `unread` tags of the column and the hand have unknown rows
+-- at least one tag is stored after the column's `len` tags; of the column's tags and the one in hand, `unread`
+-- have unknown rows
 pub record IsHeld (tags : List Tag) (len unread : ℕ) (hand : Tag) : Type 0 where
   pub some : len < length tags
   pub few : length tags ≤ 2 ^ 32

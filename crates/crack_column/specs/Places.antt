@@ -29,7 +29,7 @@ aside_of t = record { handle = tag_handle t; memory = memory_of t }
 abbrev pub aside_in : List Tag → ℕ → List Aside
 aside_in tags len = map aside_of (drop len tags)
 
--- how many more handles fit without memory in a column with this many places, given the number of tags and how many
--- fit
+-- how many more handles fit without memory in a column of `len` places, if `tags` tags are stored and `capacity`
+-- fit in the memory that was taken
 abbrev pub room_after : ℕ → ℕ → ℕ → ℕ
 room_after tags capacity len = tags - len + min (2 ^ 32 - tags) (capacity - tags)

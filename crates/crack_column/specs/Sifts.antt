@@ -7,7 +7,7 @@ use Rattle.crack_row.specs.declared.Row.{Row}
 use Rattle.crack_arena.specs.Memories.{memory_at}
 use Rattle.crack_column.specs.Column.{Column}
 
--- the first element moves to the end
+-- the list after its first element moved to the end
 abbrev pub turned_once : {X : Type 0} → List X → List X
 turned_once [] = []
 turned_once (y ∷ ys) = ys ++ y ∷ []

@@ -113,7 +113,7 @@ impl CrackerColumn {
         self.tags.label(place).handle
     }
 
-    /// The slot of the handle at the place. O(1).
+    /// The slot, or cell number, of the handle at the place. O(1).
     pub fn slot_at(&self, place: usize) -> u32
         requires { place < length self.now.handles }
         ensures { result ≡ (slice_index_or self.now.handles place no_handle).slot }
@@ -121,14 +121,15 @@ impl CrackerColumn {
         self.at(place).slot()
     }
 
-    /// The first place of the handle, if it is in the column. O(n).
+    /// The first place of the handle, or `None` if it isn't in the column. O(n).
     pub fn place_of(&self, handle: Handle<Row>) -> Option<usize>
         ensures { MatchOption result (IsAbsent self.now.handles handle) (IsFirstAt self.now.handles handle) }
     {
         self.tags.find_between(0, self.len, handle)
     }
 
-    /// The first place of the handle in `from..to`, if it is there. O(to - from).
+    /// The first place of the handle in `from..to`, counted from the column's front, or `None` if it isn't there.
+    /// O(to - from).
     pub fn place_between(&self, from: usize, to: usize, handle: Handle<Row>) -> Option<usize>
         requires order { from ≤ to }
         requires within { to ≤ length self.now.handles }
@@ -156,8 +157,8 @@ impl CrackerColumn {
         self.tags.sum_between(from, to, self.unread, arena)
     }
 
-    /// Makes room for this many more handles. The handles of all cells of an arena fit. Refused with `OutOfMemory`
-    /// if no memory is found; what was found is freed.
+    /// Makes room for this many more handles. The handles of all cells of an arena fit. O(1), except for growth.
+    /// Refused with `OutOfMemory` if no memory is found; what this call had found is freed.
     pub fn reserve(&mut self, additional: usize) -> Result<(), Refusal>
         requires { length self.old.handles + additional ≤ 2 ^ 32 }
         ensures same { self.new ≡ record self.old { room = self.new.room } }
@@ -224,7 +225,7 @@ impl CrackerColumn {
         (replaced.handle, replaced.remembered())
     }
 
-    /// Removes the last handle, and returns it. O(1).
+    /// Removes the last handle, and returns it; `None` if there is none. O(1).
     pub fn pop(&mut self) -> Option<Handle<Row>>
         ensures handles { MatchOption result
             ((self.old.handles ≡ []) × (self.new ≡ self.old))
@@ -240,7 +241,8 @@ impl CrackerColumn {
         }
     }
 
-    /// Removes the last handle, and returns it with what was remembered about its row. O(1).
+    /// Removes the last handle, and returns it with what was remembered about its row; `None` if there is none.
+    /// O(1).
     pub fn pop_remembered(&mut self) -> Option<(Handle<Row>, Remembered)>
         ensures handles { MatchOption result
             ((self.old.handles ≡ []) × (self.new ≡ self.old))

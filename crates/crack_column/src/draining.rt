@@ -18,12 +18,13 @@ pub struct Doomed {
 }
 
 impl CrackerColumn {
-    /// Does to the piece at the places `from..to` what the pulls of doomed rows, in order, do to it. A doomed row
-    /// below `low`, the piece's low bound, moves its last row before its first, into a gap of `gap` places that
-    /// lower pieces left; a doomed row of the piece is replaced by the last row. Afterwards the piece begins where
-    /// the gap began, and the rows pulled out of it follow its end. Returns the end, and how often a row of the
-    /// piece moved. In place, without memory. O(doomed rows), and O(to - from) for each doomed row of the piece.
-    /// Reads neither rows nor the arena.
+    /// Does to the piece at the places `from..to` what the pulls of doomed rows, in order, do to it. For a doomed
+    /// row below `low`, the piece's low bound, the piece's last row moves before its first, into a gap of `gap`
+    /// places that lower pieces left. A doomed row of the piece, whose high bound is `high` (`None` for the last
+    /// piece), is replaced by the piece's last row. Afterwards the piece begins where the gap began, and the rows
+    /// pulled out of it follow its end. Returns the place of its end, and how often one of its rows moved. In
+    /// place, without memory. O(doomed rows), and O(to - from) for each doomed row of the piece. Reads neither
+    /// rows nor the arena.
     pub fn drain(
         &mut self,
         gap: usize,
@@ -56,8 +57,8 @@ impl CrackerColumn {
         (end, pulled)
     }
 
-    /// Does what `drain` does for one doomed row, to a piece at the places `start..end` after a gap from `first`
-    /// on. Returns where the piece then begins and ends, and how many of its rows moved.
+    /// Does what `drain` does for one doomed row, to a piece at the places `start..end` after a gap that begins at
+    /// `first`. Returns where the piece then begins and ends, and how many of its rows moved: 0 or 1.
     fn drain_once(
         &mut self,
         first: usize,

@@ -19,7 +19,8 @@ use crack_arena::{Arena, Handle, Remembered, UNKNOWN_KEY, amount_of, key_of};
 use crack_row::{InnerBound, Key, KeyNumber, Payload, Row};
 use crack_tags::Label;
 
-/// The tag at a place: the row's handle, and what is remembered about the row.
+/// The tag at a place: the row's handle, and its remembered key and payload. The key is `UNKNOWN_KEY` if the row
+/// is unknown.
 #[derive(Clone, Copy)]
 pub(crate) struct Tag {
     pub(crate) key: KeyNumber,
@@ -51,6 +52,7 @@ impl Tag {
         }
     }
 
+    /// What the tag remembers of its row.
     pub(crate) fn remembered(&self) -> Remembered
         ensures { result ≡ memory_of self.now }
     {
@@ -159,7 +161,7 @@ pub(crate) fn crack_three(
     (middle, upper, learned)
 }
 
-/// Reads each unknown row. Returns how many became known.
+/// Reads each unknown row from the arena, and remembers it. Returns how many became known.
 fn learn(labels: &mut [Label], payloads: &mut [Payload], arena: &Arena<Row>) -> usize
     requires beside { length payloads.old ≡ length labels.old }
     requires known { All (KnowsRow arena.now.cells) (tags_of labels.old payloads.old) }
@@ -184,7 +186,7 @@ fn learn(labels: &mut [Label], payloads: &mut [Payload], arena: &Arena<Row>) -> 
 
 /// Moves the keys below the bound to the front, and returns their number. The first tag is kept aside, and leaves a
 /// gap. Each step moves the first tag at or above the bound into the gap, and the next tag to its place, so that no
-/// branch depends on a key. Exchanging the two tags instead costs a fourth more. The key is read before its label:
+/// branch depends on a key. Exchanging the two tags instead costs a quarter more. The key is read before its label:
 /// reading the whole label first costs three times as much.
 fn divide(labels: &mut [Label], payloads: &mut [Payload], bound: KeyNumber) -> usize
     requires beside { length payloads.old ≡ length labels.old }
@@ -261,10 +263,10 @@ fn shift(
     payloads[low] = payload;
 }
 
-/// Moves the keys below the low bound to the front, followed by those below the high one. Returns how many are
+/// Moves the tags below the low bound to the front, followed by those below the high one. Returns how many are
 /// below each bound. The gap moves as in `divide`: each step moves the first tag at or above the high bound into
-/// the gap; if the next tag is below the low bound, the first tag at or above the low bound takes that place; and
-/// the next tag takes the place left free. No branch depends on a key.
+/// the gap; if the next tag is below the low bound, the first tag at or above the low bound takes the place left
+/// free; and the next tag takes the last place left free. No branch depends on a key.
 fn divide_three(
     labels: &mut [Label],
     payloads: &mut [Payload],
@@ -326,8 +328,8 @@ fn turn(
     payloads[place] = payload;
 }
 
-/// Where a step of `divide_three` puts a tag: at the front of the middle keys if its key is below the low bound,
-/// otherwise of the upper keys.
+/// Where a step of `divide_three` puts a tag: at `middle`, where the middle keys begin, if its key is below the
+/// low bound, otherwise at `upper`, where the upper keys begin.
 fn place_of(is_low: bool, middle: usize, upper: usize) -> usize
     ensures { result ≡ cond is_low middle upper }
 {
@@ -384,7 +386,7 @@ fn sum_read(labels: &[Label], payloads: &[Payload], arena: &Arena<Row>) -> i128
     sum
 }
 
-/// The place of the first label with this handle.
+/// The place of the first label with this handle, or `None` if there is none. O(labels).
 pub(crate) fn find(labels: &[Label], handle: Handle<Row>) -> Option<usize>
     ensures { MatchOption result
         (IsAbsent (map label_handle labels.now) handle)

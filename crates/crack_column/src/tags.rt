@@ -99,7 +99,8 @@ impl Tags {
         self.payloads[place] = tag.payload;
     }
 
-    /// Makes room for this many more tags. If that is refused, memory that this call had found is freed.
+    /// Makes room for this many more tags. Refused with `OutOfMemory` if no memory is found; what this call had
+    /// found is freed.
     pub(crate) fn reserve(&mut self, additional: usize) -> Result<(), Refusal>
         ensures items { self.new.items ≡ self.old.items }
         ensures ok { OnOk result (length self.new.items + additional ≤ self.new.capacity) }
@@ -138,8 +139,8 @@ impl Tags {
         }
     }
 
-    /// Cracks the tags at the places `from..to`, of which at most `unread` have unknown rows. Returns the place
-    /// that divides them, and how many unknown rows became known.
+    /// Cracks the tags at the places `from..to` at the bound. At most `unread` of them have unknown rows. Returns
+    /// the place of the first one that isn't below the bound, and how many unknown rows became known.
     pub(crate) fn crack_between(
         &mut self,
         from: usize,
@@ -166,8 +167,8 @@ impl Tags {
         (from + place, learned)
     }
 
-    /// Cracks the tags at the places `from..to` in three. At most `unread` of them have unknown rows. Returns the
-    /// two places that divide them, and how many unknown rows became known.
+    /// Cracks the tags at the places `from..to` in three, at two bounds. At most `unread` of them have unknown
+    /// rows. Returns the two places that divide them, and how many unknown rows became known.
     pub(crate) fn crack_between_three(
         &mut self,
         from: usize,
@@ -250,7 +251,7 @@ impl Tags {
         )
     }
 
-    /// The first place of the handle in `from..to`, counted from `from`.
+    /// The first place of the handle in `from..to`, counted from `from`, or `None` if it isn't there.
     pub(crate) fn find_between(&self, from: usize, to: usize, handle: Handle<Row>) -> Option<usize>
         requires order { from ≤ to }
         requires within { to ≤ length self.now.items }

@@ -37,7 +37,7 @@ number_of word = if not (bytes_eq word []) && nat_le (length word) MOST_DIGITS &
 abbrev pub whole_number_of : List ℕ → Option ℤ
 whole_number_of word = if slice_index word 0 == 45 then option_map (λ n. neg_ℤ (pos n)) (number_of (drop 1 word)) else option_map pos (number_of word)
 
--- exactly two words, parsed as two kinds of value
+-- the values of exactly two words, the first read by `one` and the second by `other`; none for any other words
 abbrev pub two_of : {X Y : Type 0} → (List ℕ → Option X) → (List ℕ → Option Y) → List (List ℕ) → Option (X × Y)
 two_of one other (first ∷ second ∷ []) = option_zip (one first) (other second)
 two_of one other _ = None
@@ -71,11 +71,12 @@ abbrev pub policy_named : List ℕ → Option Merging
 policy_named name =
     if bytes_eq name (codes "complete") then Some Complete else if bytes_eq name (codes "gradual") then Some Gradual else if bytes_eq name (codes "ripple") then Some Ripple else if bytes_eq name (codes "auto") then Some Auto else None
 
--- a statement made of its parsed arguments, if they were parsed
+-- a statement made of its parsed arguments, or `BadStatement` if they couldn't be parsed
 abbrev pub made : {A : Type 0} → (A → Statement) → Option A → Reading
 made statement arguments = ok_or (option_map statement arguments) BadStatement
 
--- a statement over the range between two numbers, refused with `BadRange` if they are out of order or too great
+-- a statement over the range between two numbers, refused with `BadRange` if they are out of order or too great,
+-- and with `BadStatement` if they couldn't be parsed
 abbrev pub over : (Range → Statement) → Option (ℕ × ℕ) → Reading
 over statement ends = option_map_or (λ e. if nat_le e.0 e.1 && nat_le e.1 GREATEST_BOUND then Ok (statement (record { low = e.0; high = e.1 })) else Err BadRange) ends (Err BadStatement)
 
@@ -103,7 +104,7 @@ is_http word = is_method word || has_header word
 abbrev pub unnamed : List ℕ → Reading
 unnamed word = if is_http word then Ok (End Http) else Err BadStatement
 
--- the statement with this name and these arguments
+-- the statement with this name and these arguments, or why there is none
 abbrev pub statement_named : List ℕ → List (List ℕ) → Reading
 statement_named name arguments =
     if bytes_eq name (codes "insert") then made (λ n. Insert n.0 n.1) (two_of key_read payload_read arguments)

@@ -47,7 +47,7 @@ IsFirstWholeNumber bytes number rest = (word : List ℕ) × IsFirstWord bytes wo
 abbrev pub row_from : ℕ → ℤ → Option (Key × Payload)
 row_from key payload = option_zip (option_map (λ n. record { 0 = n }) (if nat_le key GREATEST_KEY then Some key else None)) (if int_le LEAST_PAYLOAD payload && int_le payload GREATEST_PAYLOAD then Some (record { 0 = payload }) else None)
 
--- the value of digits that follow those of `n`
+-- the number whose digits are those of `n`, followed by those of the word
 abbrev pub value_on : ℕ → List ℕ → ℕ
 value_on n word = fold (λ n b. n * 10 + (b - 48)) n word
 
@@ -61,7 +61,8 @@ pub record BeginsWithDigits (bytes : List ℕ) (number : ℕ) (rest : List ℕ) 
   pub ends : count < length bytes → slice_index bytes count ≡ 32
   pub behind : rest ≡ drop count bytes
 
--- The bytes begin with an integer of at most 21 bytes, and the byte `stop` follows it.
+-- The bytes begin with an integer of `count` bytes, at most 21, and the byte `stop` follows it. None of the `count`
+-- bytes is a space or a control character.
 pub record BeginsWithWhole (bytes : List ℕ) (stop : ℕ) (number : ℤ) (count : ℕ) : Type 0 where
   pub few : (0 < count) × (count ≤ 21) × (count < length bytes)
   pub stops : slice_index bytes count ≡ stop
@@ -69,7 +70,7 @@ pub record BeginsWithWhole (bytes : List ℕ) (stop : ℕ) (number : ℤ) (count
   pub says : whole_number_of (take count bytes) ≡ Some number
 
 -- The bytes begin with an integer of at most 21 bytes, after which a line ends. The line has `len` bytes, including
--- a carriage return at its end.
+-- the carriage return at its end, if it has one.
 pub record EndsLine (bytes : List ℕ) (number : ℤ) (len : ℕ) : Type 0 where
   pub count : ℕ
   pub few : (0 < count) × (count ≤ 21) × (len < length bytes)
@@ -98,7 +99,7 @@ insert_of arguments = made (λ n. Insert n.0 n.1) (two_of key_read payload_read 
 abbrev pub delete_of : List (List ℕ) → Reading
 delete_of arguments = made Delete (row_number_of (only_word arguments))
 
--- an update of this row to this key and payload
+-- an update of this row to this key and payload, or `BadStatement` if either couldn't be parsed
 abbrev pub update_from : Option RowNo → Option (Key × Payload) → Reading
 update_from row pair = made (λ u. Update u.0 u.1.0 u.1.1) (option_zip row pair)
 
@@ -106,7 +107,8 @@ update_from row pair = made (λ u. Update u.0 u.1.0 u.1.1) (option_zip row pair)
 abbrev pub update_of : List (List ℕ) → Reading
 update_of arguments = made (λ u. Update u.0 u.1.0 u.1.1) (option_zip (row_number_of (slice_index_or arguments 0 [])) (two_of key_read payload_read (drop 1 arguments)))
 
--- the range between these ends; only two numbers can be refused with `BadRange`
+-- the range between these ends, refused with `BadRange` if they are out of order or too great, and with
+-- `BadStatement` if they couldn't be parsed
 abbrev pub range_from : Option (ℕ × ℕ) → Result Range Refusal
 range_from (Some (low, high)) = if nat_le low high && nat_le high GREATEST_BOUND then Ok (record { low = low; high = high }) else Err BadRange
 range_from None = Err BadStatement

@@ -16,13 +16,14 @@ const NAME: &[u8] = b"insert ";
 pub struct LeadingInsert {
     pub key: Key,
     pub payload: Payload,
-    /// The length of the line in bytes, including a carriage return at its end, but not the line feed.
+    /// The length of the line in bytes, including the carriage return at its end, if it has one, but not the line
+    /// feed.
     pub len: usize,
 }
 
-/// Parses an insert that bytes begin with, through the end of its line, if it has no needless spaces and its numbers
-/// are short, as in most inserts. The end of the line isn't searched for first. `None` doesn't mean that there is no
-/// insert. O(bytes of the line), no memory.
+/// Parses the insert with which the bytes begin, through the end of its line, if it is in the usual form: single
+/// spaces, and numbers whose digits fit 64 bits. The end of the line isn't searched for first. `None` means that no
+/// line in this form begins the bytes; the line may still be an insert. O(bytes of the line), no memory.
 #[inline(always)]
 pub fn leading_insert(bytes: &[u8]) -> Option<LeadingInsert>
     ensures { IfSome result (λ i. BeginsWithInsert bytes.now i.len i.key i.payload) }
@@ -64,7 +65,8 @@ fn number_before_return(bytes: &[u8]) -> Option<(i128, usize)>
     }
 }
 
-/// Parses an integer at the beginning, if the byte `stop` follows it, and returns it with its length in bytes.
+/// Parses an integer at the beginning, if its digits fit 64 bits and the byte `stop` follows it, and returns it
+/// with its length in bytes.
 #[inline(always)]
 fn whole_number_before(bytes: &[u8], stop: u8) -> Option<(i128, usize)>
     ensures { IfSome result (λ n. BeginsWithWhole bytes.now stop n.0 n.1) }
@@ -75,7 +77,8 @@ fn whole_number_before(bytes: &[u8], stop: u8) -> Option<(i128, usize)>
     Some((number, bytes.len() - digits.len() + count))
 }
 
-/// Parses a number at the beginning, if the byte `stop` follows it, and returns it with the number of its digits.
+/// Parses a number of 64 bits at the beginning, if the byte `stop` follows it, and returns it with the number of
+/// its digits.
 #[inline(always)]
 fn number_before(bytes: &[u8], stop: u8) -> Option<(u64, usize)>
     ensures within { IfSome result (λ n. (0 < n.1) × (n.1 ≤ MOST_DIGITS) × (n.1 < length bytes.now)) }

@@ -35,15 +35,15 @@ pub enum Statement {
     Sum(KeyRange),
     /// List the rows of a range.
     Select(KeyRange),
-    /// Report the layout of a partition.
+    /// Report the layout of the partition with this number.
     Layout(u32),
-    /// Make a checkpoint of a partition.
+    /// Make a checkpoint of the partition with this number.
     Checkpoint(u32),
     /// Report the statistics of the table.
     Watch,
-    /// Report the statistics of a partition.
+    /// Report the statistics of the partition with this number.
     WatchPart(u32),
-    /// Change how pending rows are merged from now on.
+    /// Merge pending rows by this policy in the session's later statements.
     Policy(Policy),
     /// Report that the session is alive.
     Ping,
@@ -60,8 +60,9 @@ pub enum Ending {
     Http,
 }
 
-/// Parses a line as a statement. Refused with `BadRange` if the ends of a range are out of order or too great, else
-/// with `BadStatement`, also if the line has no word. O(bytes of the line), no memory.
+/// Parses a line as a statement. A line of an HTTP request is `End(Http)`. Refused with `BadRange` if the ends of a
+/// range are out of order or too great, and with `BadStatement` if the line isn't a statement for another reason or
+/// has no word. O(bytes of the line), no memory.
 #[inline(always)]
 pub fn parse_statement(line: &[u8]) -> Result<Statement, Refusal>
     ensures { result ≡ statement_of line.now }
@@ -70,8 +71,8 @@ pub fn parse_statement(line: &[u8]) -> Result<Statement, Refusal>
     parse_named(name, rest)
 }
 
-/// Parses a line that is too long to be a statement by its first bytes. Refused with `BadStatement`, unless the line
-/// belongs to an HTTP request. O(these bytes), no memory.
+/// Parses a line that is too long to be a statement, of which only the first bytes are given. Returns `End(Http)`
+/// if it belongs to an HTTP request; otherwise it is refused with `BadStatement`. O(these bytes), no memory.
 #[tactic(auto, unfolding(crate::specs::Grammar::long_of))]
 #[cold]
 #[inline(never)]
@@ -82,7 +83,7 @@ pub fn parse_long(front: &[u8]) -> Result<Statement, Refusal>
     parse_unnamed(word)
 }
 
-/// Parses a statement with this name and the bytes after it.
+/// Parses the statement with this name, whose arguments are in `rest`. Refused as `parse_statement` is.
 #[inline(never)]
 fn parse_named(name: &[u8], rest: &[u8]) -> Result<Statement, Refusal>
     ensures { result ≡ statement_named name.now (words rest.now) }
@@ -116,7 +117,8 @@ fn parse_named(name: &[u8], rest: &[u8]) -> Result<Statement, Refusal>
     }
 }
 
-/// Parses a line whose first word isn't the name of a statement.
+/// Parses a line by its first word, which isn't the name of a statement: `End(Http)` if the line belongs to an HTTP
+/// request. Refused with `BadStatement` otherwise.
 #[cold]
 #[inline(never)]
 fn parse_unnamed(word: &[u8]) -> Result<Statement, Refusal>
@@ -136,7 +138,7 @@ fn is_http(word: &[u8]) -> bool
     is_method(word) || has_header(word)
 }
 
-/// Whether a word begins with the name of an HTTP header.
+/// Whether a word begins with the name of an HTTP header and a colon.
 fn has_header(word: &[u8]) -> bool
     ensures { result ≡ has_header word.now }
 {
@@ -173,7 +175,7 @@ fn is_method(word: &[u8]) -> bool
         || word == b"PATCH".as_slice()
 }
 
-/// Parses the words after `insert`.
+/// Parses what follows `insert`. Refused with `BadStatement` if it isn't a key and a payload.
 #[inline(always)]
 fn parse_insert(rest: &[u8]) -> Result<Statement, Refusal>
     ensures { result ≡ insert_of (words rest.now) }
@@ -184,7 +186,7 @@ fn parse_insert(rest: &[u8]) -> Result<Statement, Refusal>
     }
 }
 
-/// Parses the one word after `delete`.
+/// Parses what follows `delete`. Refused with `BadStatement` if it isn't one row number.
 fn parse_delete(rest: &[u8]) -> Result<Statement, Refusal>
     ensures { result ≡ delete_of (words rest.now) }
 {
@@ -194,7 +196,7 @@ fn parse_delete(rest: &[u8]) -> Result<Statement, Refusal>
     }
 }
 
-/// Parses the words after `update`.
+/// Parses what follows `update`. Refused with `BadStatement` if it isn't a row number, a key and a payload.
 fn parse_update(rest: &[u8]) -> Result<Statement, Refusal>
     ensures { result ≡ update_of (words rest.now) }
 {
@@ -205,7 +207,7 @@ fn parse_update(rest: &[u8]) -> Result<Statement, Refusal>
     }
 }
 
-/// Makes an update of a row to a key and a payload, if they were parsed.
+/// Makes an update of the row to the pair's key and payload. Refused with `BadStatement` if there is no pair.
 fn update_from(row: RowNo, pair: Option<(Key, Payload)>) -> Result<Statement, Refusal>
     ensures { result ≡ update_from (Some row) pair }
 {
@@ -215,7 +217,7 @@ fn update_from(row: RowNo, pair: Option<(Key, Payload)>) -> Result<Statement, Re
     }
 }
 
-/// Parses the words after `count`.
+/// Parses what follows `count`. Refused as `parse_range` is.
 #[tactic(auto, using(crate::proofs::Statements::over_ok, crate::proofs::Statements::over_err))]
 fn parse_count(rest: &[u8]) -> Result<Statement, Refusal>
     ensures { result ≡ over Count (two_of number_of number_of (words rest.now)) }
@@ -226,7 +228,7 @@ fn parse_count(rest: &[u8]) -> Result<Statement, Refusal>
     }
 }
 
-/// Parses the words after `sum`.
+/// Parses what follows `sum`. Refused as `parse_range` is.
 #[tactic(auto, using(crate::proofs::Statements::over_ok, crate::proofs::Statements::over_err))]
 fn parse_sum(rest: &[u8]) -> Result<Statement, Refusal>
     ensures { result ≡ over Sum (two_of number_of number_of (words rest.now)) }
@@ -237,7 +239,7 @@ fn parse_sum(rest: &[u8]) -> Result<Statement, Refusal>
     }
 }
 
-/// Parses the words after `select`.
+/// Parses what follows `select`. Refused as `parse_range` is.
 #[tactic(auto, using(crate::proofs::Statements::over_ok, crate::proofs::Statements::over_err))]
 fn parse_select(rest: &[u8]) -> Result<Statement, Refusal>
     ensures { result ≡ over Select (two_of number_of number_of (words rest.now)) }
@@ -248,7 +250,8 @@ fn parse_select(rest: &[u8]) -> Result<Statement, Refusal>
     }
 }
 
-/// Parses two numbers as a range.
+/// Parses two numbers as a range. Refused with `BadRange` if they are out of order or too great, and with
+/// `BadStatement` if there aren't exactly two numbers.
 fn parse_range(rest: &[u8]) -> Result<KeyRange, Refusal>
     ensures { result ≡ range_from (two_of number_of number_of (words rest.now)) }
 {
@@ -258,7 +261,7 @@ fn parse_range(rest: &[u8]) -> Result<KeyRange, Refusal>
     }
 }
 
-/// Parses the one word after `layout`.
+/// Parses what follows `layout`. Refused with `BadStatement` if it isn't one partition number.
 fn parse_layout(rest: &[u8]) -> Result<Statement, Refusal>
     ensures { result ≡ layout_of (words rest.now) }
 {
@@ -268,7 +271,7 @@ fn parse_layout(rest: &[u8]) -> Result<Statement, Refusal>
     }
 }
 
-/// Parses the one word after `checkpoint`.
+/// Parses what follows `checkpoint`. Refused with `BadStatement` if it isn't one partition number.
 fn parse_checkpoint(rest: &[u8]) -> Result<Statement, Refusal>
     ensures { result ≡ checkpoint_of (words rest.now) }
 {
@@ -278,7 +281,8 @@ fn parse_checkpoint(rest: &[u8]) -> Result<Statement, Refusal>
     }
 }
 
-/// Parses what follows `stats`: the number of a partition, or no word for the whole table.
+/// Parses what follows `stats`: the number of a partition, or no word for the whole table. Refused with
+/// `BadStatement` if it is anything else.
 fn parse_stats(rest: &[u8]) -> Result<Statement, Refusal>
     ensures { result ≡ watch_of (words rest.now) }
 {
@@ -292,7 +296,7 @@ fn parse_stats(rest: &[u8]) -> Result<Statement, Refusal>
     }
 }
 
-/// Parses the one word after `policy`.
+/// Parses what follows `policy`. Refused with `BadStatement` if it isn't one policy's name.
 fn parse_policy(rest: &[u8]) -> Result<Statement, Refusal>
     ensures { result ≡ policy_of (words rest.now) }
 {
@@ -319,7 +323,7 @@ fn policy_named(name: &[u8]) -> Option<Policy>
     }
 }
 
-/// Parses what follows `ping`: no word.
+/// Parses what follows `ping`. Refused with `BadStatement` if there is a word.
 fn parse_ping(rest: &[u8]) -> Result<Statement, Refusal>
     ensures { result ≡ ping_of (words rest.now) }
 {
@@ -331,7 +335,7 @@ fn parse_ping(rest: &[u8]) -> Result<Statement, Refusal>
     }
 }
 
-/// Parses what follows `quit`: no word.
+/// Parses what follows `quit`. Refused with `BadStatement` if there is a word.
 fn parse_quit(rest: &[u8]) -> Result<Statement, Refusal>
     ensures { result ≡ quit_of (words rest.now) }
 {

@@ -21,7 +21,7 @@ pub const LONGEST_TEXT: usize = 2048;
 /// serial of 20, and three more bytes.
 const PLACED_BYTES: usize = 48;
 
-/// Adds the line of a row that was inserted.
+/// Adds the line of a row that was inserted: `row P.S`.
 #[inline(always)]
 pub fn push_placed<const ROOM: usize>(text: &mut ArrayVec<u8, ROOM>, part: u32, serial: Serial)
     requires { length text.old.items + PLACED_BYTES ≤ ROOM }
@@ -50,7 +50,7 @@ fn push_part<const ROOM: usize>(text: &mut ArrayVec<u8, ROOM>, part: u32)
     }
 }
 
-/// Adds the line of a row that was deleted.
+/// Adds the line of a row that was deleted: `gone K V`.
 pub fn push_gone<const ROOM: usize>(text: &mut ArrayVec<u8, ROOM>, row: &Row)
     requires { length text.old.items + TEXT_BYTES ≤ ROOM }
     ensures { text.new.items ≡ text.old.items ++ gone_text row.now }
@@ -62,7 +62,7 @@ pub fn push_gone<const ROOM: usize>(text: &mut ArrayVec<u8, ROOM>, row: &Row)
     push(text, b"\n");
 }
 
-/// Adds the line of a count.
+/// Adds the line of a count: `count N`.
 pub fn push_count<const ROOM: usize>(text: &mut ArrayVec<u8, ROOM>, count: u64)
     requires { length text.old.items + TEXT_BYTES ≤ ROOM }
     ensures { text.new.items ≡ text.old.items ++ line_text (codes "count ") (decimal count) }
@@ -72,7 +72,7 @@ pub fn push_count<const ROOM: usize>(text: &mut ArrayVec<u8, ROOM>, count: u64)
     push(text, b"\n");
 }
 
-/// Adds the line of a sum.
+/// Adds the line of a sum: `sum N`.
 pub fn push_sum<const ROOM: usize>(text: &mut ArrayVec<u8, ROOM>, sum: i128)
     requires { length text.old.items + TEXT_BYTES ≤ ROOM }
     ensures { text.new.items ≡ text.old.items ++ line_text (codes "sum ") (signed_decimal sum) }
@@ -82,7 +82,7 @@ pub fn push_sum<const ROOM: usize>(text: &mut ArrayVec<u8, ROOM>, sum: i128)
     push(text, b"\n");
 }
 
-/// Adds the line of a checkpoint, with its number of commands.
+/// Adds the line of a checkpoint: `folded N`, with the number of commands accepted since the previous one.
 pub fn push_folded<const ROOM: usize>(text: &mut ArrayVec<u8, ROOM>, folded: u64)
     requires { length text.old.items + TEXT_BYTES ≤ ROOM }
     ensures { text.new.items ≡ text.old.items ++ line_text (codes "folded ") (decimal folded) }
@@ -92,7 +92,7 @@ pub fn push_folded<const ROOM: usize>(text: &mut ArrayVec<u8, ROOM>, folded: u64
     push(text, b"\n");
 }
 
-/// Adds the line before listed rows, with their number.
+/// Adds the line before listed rows, with their number: `rows N`.
 pub fn push_head<const ROOM: usize>(text: &mut ArrayVec<u8, ROOM>, total: u64)
     requires { length text.old.items + TEXT_BYTES ≤ ROOM }
     ensures { text.new.items ≡ text.old.items ++ line_text (codes "rows ") (decimal total) }
@@ -102,7 +102,7 @@ pub fn push_head<const ROOM: usize>(text: &mut ArrayVec<u8, ROOM>, total: u64)
     push(text, b"\n");
 }
 
-/// Adds the line of one row of a partition.
+/// Adds the line of one row of the partition `part`: `P.S K V`.
 pub fn push_row<const ROOM: usize>(text: &mut ArrayVec<u8, ROOM>, part: u32, row: &Row)
     requires { length text.old.items + TEXT_BYTES ≤ ROOM }
     ensures { text.new.items ≡ text.old.items ++ row_text part row.now }
@@ -136,7 +136,7 @@ fn push_two_fields<const ROOM: usize>(
     push_number(text, other);
 }
 
-/// Adds the first line of a layout.
+/// Adds the first line of the layout of the partition `part`: its sizes, and its number of pieces.
 pub fn push_layout_head<const ROOM: usize>(
     text: &mut ArrayVec<u8, ROOM>,
     part: u32,
@@ -159,7 +159,7 @@ pub fn push_layout_head<const ROOM: usize>(
     push(text, b"\n");
 }
 
-/// Adds the line of a piece.
+/// Adds the line of a piece: its two bounds, and its size.
 pub fn push_piece<const ROOM: usize>(text: &mut ArrayVec<u8, ROOM>, piece: &PieceSize)
     requires { length text.old.items + TEXT_BYTES ≤ ROOM }
     ensures { text.new.items ≡ text.old.items ++ piece_text piece.now }
@@ -173,7 +173,7 @@ pub fn push_piece<const ROOM: usize>(text: &mut ArrayVec<u8, ROOM>, piece: &Piec
     push(text, b"\n");
 }
 
-/// Adds the line of a refusal.
+/// Adds the line of a refusal: its code, and the numbers that it carries.
 pub fn push_refusal<const ROOM: usize>(text: &mut ArrayVec<u8, ROOM>, refusal: &Refusal)
     requires { length text.old.items + LONGEST_TEXT ≤ ROOM }
     ensures { text.new.items ≡ text.old.items ++ refusal_text refusal.now }
@@ -202,7 +202,7 @@ fn push_refused<const ROOM: usize>(text: &mut ArrayVec<u8, ROOM>, code: u32, num
     push(text, b"\n");
 }
 
-/// Adds the line of a refusal with the numbers of missing workers.
+/// Adds the line of a refusal with the numbers of the missing workers, whose bits are set in `missing`.
 fn push_missing<const ROOM: usize>(text: &mut ArrayVec<u8, ROOM>, code: u32, missing: u64)
     requires { length text.old.items + LONGEST_TEXT ≤ ROOM }
     ensures { text.new.items ≡ text.old.items ++ refused_text code (bits_text missing 64) }
@@ -213,7 +213,7 @@ fn push_missing<const ROOM: usize>(text: &mut ArrayVec<u8, ROOM>, code: u32, mis
     push(text, b"\n");
 }
 
-/// Adds the numbers of the bits that are set, each after a space.
+/// Adds the numbers of the bits that are set, in rising order, each after a space.
 fn push_bits<const ROOM: usize>(text: &mut ArrayVec<u8, ROOM>, bits: u64)
     requires { length text.old.items + 1344 ≤ ROOM }
     ensures value { text.new.items ≡ text.old.items ++ bits_text bits 64 }

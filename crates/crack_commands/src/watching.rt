@@ -8,19 +8,23 @@ use crate::text::{LONGEST_TEXT, push, push_number};
 use arrayvec::ArrayVec;
 use crack_plain::Statistics;
 
-/// The traffic of a server: how many clients are connected, how many sessions have begun, how many statements were
-/// answered a second and the longest time that those of one read took, both over the last minute, and how many
-/// seconds ago the server started.
+/// The traffic of a server.
 #[derive(Clone, Copy, PartialEq, Eq, Debug)]
 pub struct Traffic {
+    /// How many clients are connected.
     pub clients: u64,
+    /// How many sessions have begun.
     pub sessions: u64,
+    /// How many statements were answered a second, over the last minute.
     pub statements_per_second: u64,
+    /// The longest time that the statements of one read took, over the last minute.
     pub longest_microseconds: u64,
+    /// How long ago the server started.
     pub uptime_seconds: u64,
 }
 
-/// Adds the lines of the statistics of a table or a partition, and then those of the server's traffic, if there is one.
+/// Adds the line that says how many numbers follow, the lines of the statistics of a table or a partition, and
+/// those of the server's traffic unless it is `None`.
 pub fn push_numbers<const ROOM: usize>(
     text: &mut ArrayVec<u8, ROOM>,
     statistics: &Statistics,

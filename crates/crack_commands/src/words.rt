@@ -27,7 +27,7 @@ pub const GREATEST_PART: u32 = 4294967295;
 /// The greatest serial in a statement.
 pub const GREATEST_SERIAL: u64 = 18446744073709551615;
 
-/// Parses exactly two words as a key and a payload.
+/// Parses exactly two words as a key and a payload. `None` if they are anything else.
 #[inline(always)]
 pub fn key_and_payload(bytes: &[u8]) -> Option<(Key, Payload)>
     ensures { result ≡ two_of key_read payload_read (words bytes.now) }
@@ -86,7 +86,7 @@ pub(crate) fn row_from(key: u128, payload: i128) -> Option<(Key, Payload)>
     }
 }
 
-/// Parses a word as a key.
+/// Parses a word as a key. `None` if it isn't one.
 pub fn read_key(word: &[u8]) -> Option<Key>
     ensures { result ≡ key_read word.now }
 {
@@ -96,7 +96,7 @@ pub fn read_key(word: &[u8]) -> Option<Key>
     }
 }
 
-/// Parses a word as a payload.
+/// Parses a word as a payload. `None` if it isn't one.
 pub fn read_payload(word: &[u8]) -> Option<Payload>
     ensures { result ≡ payload_read word.now }
 {
@@ -120,7 +120,7 @@ fn is_payload(number: i128) -> bool
     LEAST_PAYLOAD as i128 <= number && number <= GREATEST_PAYLOAD as i128
 }
 
-/// Parses exactly two words as numbers.
+/// Parses exactly two words as numbers. `None` if they are anything else.
 #[inline(always)]
 pub fn two_numbers(bytes: &[u8]) -> Option<(u128, u128)>
     ensures { result ≡ two_of number_of number_of (words bytes.now) }
@@ -168,7 +168,7 @@ fn next_number(bytes: &[u8]) -> (Option<u128>, &[u8])
     (read_number(word), rest)
 }
 
-/// Parses a word as a row number.
+/// Parses a word as a row number: a partition number, a full stop and a serial. `None` if it isn't one.
 pub fn read_row_number(word: &[u8]) -> Option<RowNo>
     ensures { result ≡ row_number_of word.now }
 {
@@ -187,14 +187,14 @@ pub fn read_row_number(word: &[u8]) -> Option<RowNo>
     }
 }
 
-/// Parses a word as a partition number.
+/// Parses a word as a partition number. `None` if it isn't one.
 pub fn read_part(word: &[u8]) -> Option<u32>
     ensures { result ≡ number_up_to GREATEST_PART word.now }
 {
     read_number_up_to(GREATEST_PART, word)
 }
 
-/// Parses a word as a number that is at most `greatest`.
+/// Parses a word as a number that is at most `greatest`. `None` if it isn't one.
 pub fn read_number_up_to(greatest: u32, word: &[u8]) -> Option<u32>
     ensures { result ≡ number_up_to greatest word.now }
 {
@@ -204,7 +204,7 @@ pub fn read_number_up_to(greatest: u32, word: &[u8]) -> Option<u32>
     }
 }
 
-/// Parses a word as a serial.
+/// Parses a word as a serial. `None` if it isn't one.
 fn read_serial(word: &[u8]) -> Option<u64>
     ensures { result ≡ number_up_to GREATEST_SERIAL word.now }
 {
@@ -214,7 +214,7 @@ fn read_serial(word: &[u8]) -> Option<u64>
     }
 }
 
-/// The index of the first such byte, or the length if there is none.
+/// The index of the first byte that equals `byte`, or the length if there is none.
 pub(crate) fn place_of(byte: u8, word: &[u8]) -> usize
     ensures { result ≡ position_or_len (λ b. b == byte) word.now }
 {
@@ -226,7 +226,7 @@ pub(crate) fn place_of(byte: u8, word: &[u8]) -> usize
     word.len()
 }
 
-/// Parses the first word as a number of 64 bits, and returns it with the bytes after the word.
+/// Parses the first word as a number of 64 bits, if it is one, and returns it with the bytes after the word.
 #[inline(always)]
 fn short_number(bytes: &[u8]) -> Option<(u64, &[u8])>
     ensures { IfSome result (λ pair. IsFirstNumber bytes.now (Some pair.0) pair.1.now) }
@@ -267,7 +267,7 @@ pub(crate) fn has_sign(bytes: &[u8]) -> bool
     !bytes.is_empty() && bytes[0] == b'-'
 }
 
-/// The bytes without a minus sign at the beginning.
+/// The bytes without the minus sign at the beginning, if there is one.
 #[inline(always)]
 pub(crate) fn unsigned(bytes: &[u8]) -> &[u8]
     ensures { result.now ≡ (if has_sign bytes.now then drop 1 bytes.now else bytes.now) }
@@ -314,7 +314,7 @@ pub(crate) fn leading_number(bytes: &[u8]) -> (u64, usize)
     }
 }
 
-/// Appends a digit to a number, if the byte is a digit and the result fits.
+/// Appends a digit to a number. `None` if the byte isn't a digit or the result doesn't fit 64 bits.
 fn with_digit(value: u64, byte: u8) -> Option<u64>
     ensures { IfSome result (λ n. (is_digit byte ≡ true) × (n ≡ value * 10 + (byte - 48))) }
 {
@@ -344,7 +344,8 @@ pub(crate) fn leading_digits(bytes: &[u8]) -> (u64, usize)
     (value, bytes.len())
 }
 
-/// Parses a block of digits at the beginning, and returns its value and length: 0 and 0 if there are fewer digits.
+/// Parses `BLOCK_DIGITS` digits at the beginning, and returns their value and count: 0 and 0 if there are fewer
+/// digits.
 #[inline(always)]
 fn leading_block(bytes: &[u8]) -> (u64, usize)
     ensures within { result.1 ≤ length bytes.now }
@@ -388,7 +389,8 @@ fn block_value(block: &[u8]) -> u64
     value
 }
 
-/// Parses a number of 1 to `MOST_DIGITS` digits, with or without a minus sign directly before it.
+/// Parses a number of 1 to `MOST_DIGITS` digits, with or without a minus sign directly before it. `None` if the
+/// word is anything else.
 fn read_whole_number(word: &[u8]) -> Option<i128>
     ensures { result ≡ whole_number_of word.now }
 {
@@ -396,7 +398,7 @@ fn read_whole_number(word: &[u8]) -> Option<i128>
     Some(signed(has_sign(word), number))
 }
 
-/// Parses a number of 1 to `MOST_DIGITS` digits.
+/// Parses a number of 1 to `MOST_DIGITS` digits. `None` if the word is anything else.
 fn read_number(word: &[u8]) -> Option<u128>
     ensures value { result ≡ number_of word.now }
     ensures small { IfSome result (λ n. n < 2 ^ 127) }

@@ -47,16 +47,16 @@ pub record Asks (limits : Limits) (splits : List Bound) (step : Step) (outcome :
   pub makes : DoesStep splits limits step outcome old new
   pub lasts : is_automatic limits.upkeep ≡ true → Lasts limits (slice_get (tables_of old) step.part) outcome
 
--- a row is inserted into the partition of its key, and the result is its row number
+-- a row is inserted into the partition of its key, and the result is its row number, or why it is refused
 pub record Inserts (limits : Limits) (splits : List Bound) (key : Key) (payload : Payload) (result : Result RowNo Refusal) (old new : List Part) : Type 0 where
   pub asks : Asks limits splits (step_at Gradual (route splits key.0) (Insert key payload)) (mapped (λ (row : RowNo). Placed row.serial) result) old new
   pub part : IfOk result (λ row. row.part ≡ route splits key.0)
 
--- a row is deleted, and the result is that row, if it existed
+-- a row is deleted, and the result is that row as it was, none if it didn't exist, or a refusal
 abbrev pub Deletes : Limits → List Bound → RowNo → Result (Option Row) Refusal → List Part → List Part → Type 0
 Deletes limits splits row result old new = Asks limits splits (step_at Gradual row.part (Delete row.serial)) (mapped (λ (row : Option Row). option_map_or Gone row NoRow) result) old new
 
--- the key and the payload of a row are replaced, and the result is whether the row exists
+-- the key and the payload of a row are replaced, and the result is whether the row exists, or a refusal
 abbrev pub Updates : Limits → List Bound → RowNo → Key → Payload → Result Bool Refusal → List Part → List Part → Type 0
 Updates limits splits row key payload result old new = Asks limits splits (step_at Gradual row.part (Update row.serial key payload)) (mapped (λ (found : Bool). if found then Changed else NoRow) result) old new
 

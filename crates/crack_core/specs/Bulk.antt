@@ -19,7 +19,7 @@ use Rattle.crack_core.specs.declared.bulk.Progress.{Progress}
 abbrev pub NumberedCall : Type 1
 NumberedCall = ℕ → Option Refusal → List Part → List Part → Type 0
 
--- this many calls of a list were answered, from the first on, each on the partitions that the previous one left
+-- this many calls of a list were answered, from the first on, each by the partitions that the previous one left
 pub data Answered (call : NumberedCall) (old : List Part) : ℕ → List Part → Type 0 where
   none : Answered call old 0 old
   one_more : (done : ℕ) (between new : List Part) → Answered call old done between → call done None between new → Answered call old (done + 1) new

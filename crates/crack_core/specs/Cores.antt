@@ -13,7 +13,7 @@ pub record CoreState : Type 0 where
   pub limits : Limits
   pub parts : List Part
 
--- the splits and the limits are good, and the partitions fit them
+-- the splits and the limits are valid, and the partitions are those of these splits and limits
 pub record IsCore (core : CoreState) : Type 0 where
   pub splits : AreSplits core.splits
   pub limited : AreLimits core.limits

@@ -77,7 +77,7 @@ abbrev pub Does : List Bound → Limits → Job → Result Done Refusal → List
 Does splits limits (Perform step) result old new = (outcome : Result Reply Refusal) × (result ≡ mapped Replied outcome) × DoesStep splits limits step outcome old new
 Does splits limits (Fold part) result old new = (outcome : Result ℕ Refusal) × (result ≡ mapped Folded outcome) × Folds splits limits part outcome old new
 
--- jobs are done in order, each on the partitions that the previous one left
+-- jobs are done in order, each by the partitions that the previous one left, with these outcomes
 abbrev pub DoesAll : List Bound → Limits → List Job → List (Result Done Refusal) → List Part → List Part → Type 0
 DoesAll splits limits [] [] old new = new ≡ old
 DoesAll splits limits (job ∷ jobs) (result ∷ results) old new = (between : List Part) × Does splits limits job result old between × DoesAll splits limits jobs results between new

@@ -10,7 +10,8 @@ use Rattle.crack_part.specs.Parts.{Part, IsSound}
 use Rattle.crack_core.specs.declared.TheConstants.{MOST_SPLITS}
 use Rattle.crack_core.specs.Routes.{is_rising, keys_of_part}
 
--- the fault of splits, if there is one: `BadSplits` if they don't rise as they should, or else `TooManyPartitions`
+-- the fault of splits, if there is one: `BadSplits` if they don't rise strictly or one isn't 1 to the greatest key;
+-- else `TooManyPartitions` if there are more than `MOST_SPLITS`
 abbrev pub splits_fault : List Bound → Option Refusal
 splits_fault splits = if is_rising 0 splits then (if nat_le (length splits) MOST_SPLITS then None else Some TooManyPartitions) else Some BadSplits
 

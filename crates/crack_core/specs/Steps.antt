@@ -34,7 +34,8 @@ pub record Bounds : Type 0 where
 abbrev pub taken_where_full : Limits → PlainView → ℕ
 taken_where_full limits table = if is_automatic limits.upkeep then length table.state.rows else accepted_of table
 
--- what these limits mean for a partition
+-- the `Bounds` that these limits set for a partition: when it refuses a command, how many cells it may have and take,
+-- and when a checkpoint is due
 abbrev pub bounds_from : Limits → Bounds
 bounds_from limits = record { stop = stopped_by limits; cells = limits.cells; taken = taken_where_full limits; due = λ table. is_due limits table.since }
 
@@ -46,12 +47,14 @@ mapped f outcome = result_map_both f (λ e. e) outcome
 abbrev pub unless : {X : Type 0} → Option Refusal → X → Result X Refusal
 unless refusal x = option_map_or Err refusal (Ok x)
 
--- the expected answer of a partition with these keys and bounds, or `NoSuchPartition` if there is none
+-- the expected answer of a partition with these keys and bounds, if no cell is missing and memory is found;
+-- `NoSuchPartition` if there is no partition
 abbrev pub expected : Bounds → Range → Option PlainView → Command → Result Reply Refusal
 expected bounds keys None command = Err NoSuchPartition
 expected bounds keys (Some table) command = unless (first_cause keys (bounds.stop table) false command) (reply_to table.state command)
 
--- a partition may refuse a command with a key for lack of a cell, if as many cells may be taken as its rows may have
+-- a partition may lack a cell for a command: the command has a key, and as many cells may be taken as its rows may
+-- have
 abbrev pub MayLackCell : Bounds → Option PlainView → Command → Type 0
 MayLackCell bounds table command = IsSomeAnd table (λ (t : PlainView). (is_some (key_of command) ≡ true) × (bounds.cells ≤ bounds.taken t))
 

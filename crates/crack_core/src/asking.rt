@@ -89,8 +89,8 @@ impl Core {
     }
 
     /// Counts the rows of a range: asks each partition that has a part of it, in order. Refused with `HistoryFull`,
-    /// `LifeOver` and `OutOfMemory` as `step` is; the partitions before the refusing one have then answered. If
-    /// there are several, takes memory for a reply of each.
+    /// `LifeOver` and `OutOfMemory` as `step` is; the partitions before the refusing one have then answered.
+    /// If several partitions are asked, takes memory for a reply of each.
     pub fn count(&mut self, range: KeyRange, policy: Policy) -> Result<u64, Refusal>
         ensures counts { CountsRange self.old.limits self.old.splits policy range result self.old.parts self.new.parts }
         ensures opened { (self.new.splits ≡ self.old.splits) × (self.new.limits ≡ self.old.limits) }
@@ -154,6 +154,7 @@ impl AskPart for Core {
 
     ghost asks = { AsksCore };
 
+    /// Asks the partition by one `step`.
     fn ask_part(&mut self, part: u32, command: Command, policy: Policy) -> Result<Reply, Refusal> {
         let answered = self.step(Step {
             part,
@@ -165,7 +166,7 @@ impl AskPart for Core {
     }
 }
 
-/// The serial of the inserted row in the reply to an insert.
+/// The serial of the inserted row in the reply to an insert; 0 for any other reply.
 fn serial_in(reply: &Reply) -> Serial
     ensures { (s : PlainState) (key : Key) (payload : Payload) → reply.now ≡ reply_to s (Insert key payload) →
         reply.now ≡ Reply.Placed result }
@@ -176,7 +177,7 @@ fn serial_in(reply: &Reply) -> Serial
     }
 }
 
-/// The deleted row in the reply to a delete, if the row existed.
+/// The deleted row in the reply to a delete; `None` if there was no such row.
 fn gone_in(reply: &Reply) -> Option<Row>
     ensures { (s : PlainState) (serial : Serial) → reply.now ≡ reply_to s (Delete serial) →
         reply.now ≡ option_map_or Reply.Gone result Reply.NoRow }

@@ -43,7 +43,7 @@ impl Progress {
     }
 }
 
-/// 2^64: the value of the lowest of the bits above the low 64.
+/// 2^64: what 1 in the upper half of a sum counts.
 const HIGH_UNIT: u128 = 18446744073709551616;
 
 /// 2^102, which no sum exceeds in size.
@@ -296,7 +296,7 @@ impl Core {
     }
 }
 
-/// The low 64 bits of a sum, and the bits above them.
+/// The low 64 bits of a sum, and the bits above them as a signed number. The sum must be from -2^102 to 2^102.
 pub fn halves(sum: i128) -> (u64, i64)
     requires low { neg_ℤ (pos (2 ^ 102)) ≤ℤ sum }
     requires high { sum ≤ℤ pos (2 ^ 102) }

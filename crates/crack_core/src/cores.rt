@@ -136,7 +136,7 @@ impl Core {
     }
 
     /// The partitions that have keys of a range, as the function `parts_of` gives them. Up to 8 take no memory;
-    /// refused with `OutOfMemory` if more find none.
+    /// refused with `OutOfMemory` if no memory is found for more.
     pub fn parts_of(&self, range: KeyRange) -> Result<SmallVec<(u32, KeyRange), 8>, Refusal>
         ensures ok { IfOk result (λ parts. parts.items ≡ parts_of self.now.splits range) }
         ensures few { IfOk result (λ parts. length parts.items ≤ length self.now.splits + 1) }
@@ -203,8 +203,8 @@ impl Core {
     }
 
     /// Performs these steps in order, and returns the outcome of each. A refused step leaves what `step` says, and
-    /// the next one is performed. Refused with `OutOfMemory`, before the first step, if the list of the outcomes
-    /// finds no memory.
+    /// the next one is performed. Refused with `OutOfMemory`, before the first step, if no memory is found for the
+    /// list of the outcomes.
     pub fn run_steps(&mut self, steps: &[Step]) -> Result<Vec<Result<Reply, Refusal>>, Refusal>
         ensures replies { IfOk result (λ results.
             AreExpectedOutcomes self.old.limits self.old.splits (tables_of self.old.parts) (map Job.Perform steps.now)
@@ -240,8 +240,8 @@ impl Core {
     }
 
     /// Does these jobs in order, and returns the outcome of each. A refused job leaves what `step` and `checkpoint`
-    /// say, and the next one is done. Refused with `OutOfMemory`, before the first job, if the list of the outcomes
-    /// finds no memory.
+    /// say, and the next one is done. Refused with `OutOfMemory`, before the first job, if no memory is found for the
+    /// list of the outcomes.
     pub fn run_jobs(&mut self, jobs: &[Job]) -> Result<Vec<Result<Done, Refusal>>, Refusal>
         ensures replies { IfOk result (λ results.
             AreExpectedOutcomes self.old.limits self.old.splits (tables_of self.old.parts) jobs.now results.items) }
@@ -306,7 +306,7 @@ fn ask_at(partitions: &mut [Partition], step: Step) -> Result<Reply, Refusal>
     answered
 }
 
-/// Performs steps in order, and adds the outcome of each to a list that has room.
+/// Performs steps in order, and adds the outcome of each to `results`, which must have room.
 fn run_all(partitions: &mut [Partition], steps: &[Step], results: &mut Vec<Result<Reply, Refusal>>)
     requires empty { results.old.items ≡ [] }
     requires room { length steps.now ≤ vec_capacity results.old }
@@ -328,7 +328,8 @@ fn run_all(partitions: &mut [Partition], steps: &[Step], results: &mut Vec<Resul
     }
 }
 
-/// Makes a checkpoint of one partition. Refused with `NoSuchPartition` if there is no such partition.
+/// Makes a checkpoint of one partition, and returns how many commands it had accepted since its previous one.
+/// Refused with `NoSuchPartition` if there is no such partition.
 fn fold_at(partitions: &mut [Partition], part: u32) -> Result<u64, Refusal>
     ensures outcome { result ≡ expected_fold (slice_get (tables_of partitions.old) part) }
     ensures after { tables_of partitions.new ≡ changed_at checkpointed (tables_of partitions.old) part result }
@@ -388,7 +389,7 @@ fn folding(folded: Result<u64, Refusal>) -> Result<Done, Refusal>
     }
 }
 
-/// Does jobs in order, and adds the outcome of each to a list that has room.
+/// Does jobs in order, and adds the outcome of each to `results`, which must have room.
 fn do_all(partitions: &mut [Partition], jobs: &[Job], results: &mut Vec<Result<Done, Refusal>>)
     requires empty { results.old.items ≡ [] }
     requires room { length jobs.now ≤ vec_capacity results.old }

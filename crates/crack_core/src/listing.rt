@@ -39,7 +39,7 @@ impl Core {
         }
     }
 
-    /// Lists the rows of a range, as `select_keys` does.
+    /// Lists the rows of a range, as `select_keys` does. Refused as `count` is.
     fn select_range(
         &mut self,
         range: KeyRange,
@@ -65,7 +65,8 @@ impl Core {
     }
 }
 
-/// Writes the rows of all replies, in order. Returns how many there are.
+/// Writes the rows of all replies into the lists, in order, as far as there is room. Returns how many rows the
+/// replies have.
 fn list_all(
     replies: &[PartReply],
     parts: &mut [u32],

@@ -13,8 +13,8 @@ use crack_part::Partition;
 use crack_row::{Bound, KeyRange, Limits, Refusal};
 use std::alloc::Global;
 
-/// The fault of splits, if there is one: `BadSplits` if they don't rise strictly or one isn't 1 to `GREATEST_KEY`,
-/// else `TooManyPartitions` if there are more than `MOST_SPLITS`. Takes no memory. O(splits).
+/// The fault of splits: `BadSplits` if they don't rise strictly or one isn't 1 to `GREATEST_KEY`, else
+/// `TooManyPartitions` if there are more than `MOST_SPLITS`, else `None`. Takes no memory. O(splits).
 pub fn splits_fault(splits: &[Bound]) -> Option<Refusal>
     ensures value { result ≡ splits_fault splits.now }
     ensures good { result ≡ None → AreSplits splits.now }
@@ -28,7 +28,7 @@ pub fn splits_fault(splits: &[Bound]) -> Option<Refusal>
     None
 }
 
-/// The fault of limits, if there is one: `BadLimit` if one of them isn't 1 to the greatest of its kind.
+/// The fault of limits: `BadLimit` if one of them isn't 1 to the greatest of its kind, else `None`.
 pub fn limits_fault(limits: Limits) -> Option<Refusal>
     ensures value { result ≡ limits_fault limits }
     ensures good { result ≡ None → AreLimits limits }

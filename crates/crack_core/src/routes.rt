@@ -9,8 +9,8 @@ use crack_row::{Bound, Key, KeyRange, Refusal};
 use smallvec::SmallVec;
 use std::alloc::Global;
 
-/// The partition of a key: partition 0 has the keys below the first split, and each later partition has those from
-/// its split on. O(log splits).
+/// The number of a key's partition: partition 0 has the keys below the first split, and each later partition has
+/// those from the split before it on. O(log splits).
 pub fn route(splits: &[Bound], key: Key) -> u32
     requires { AreSplits splits.now }
     ensures value { result ≡ route splits.now key.0 }
@@ -22,7 +22,8 @@ pub fn route(splits: &[Bound], key: Key) -> u32
 
 /// The partitions that have keys of a range, in rising order, each with its part of the range. An empty range goes
 /// unchanged to the partition of its low end, or to the last one if that end is the greatest bound. O(log
-/// splits + partitions met). Up to 8 partitions take no memory; refused with `OutOfMemory` if more find none.
+/// splits + partitions met). Up to 8 partitions take no memory; refused with `OutOfMemory` if no memory is found for
+/// more.
 pub fn parts_of(
     alloc: Global,
     splits: &[Bound],
@@ -47,7 +48,7 @@ pub fn parts_of(
 }
 
 /// The only partition that has keys of a range, or the partition of an empty range's low end; `None` if several
-/// have keys. Takes no memory. O(log splits).
+/// partitions have keys of it. Takes no memory. O(log splits).
 pub fn only_part(splits: &[Bound], range: KeyRange) -> Option<u32>
     requires { AreSplits splits.now }
     ensures one { IfSome result (λ part. parts_of splits.now range ≡ (part, range) ∷ []) }
@@ -78,7 +79,7 @@ pub fn keys_of_part(splits: &[Bound], part: usize) -> KeyRange
     }
 }
 
-/// Adds the partitions from `first` to `last`, each with its part of a range.
+/// Adds the partitions from `first` to `last`, both included, to `parts`, each with its part of the range.
 fn push_parts(
     parts: &mut SmallVec<(u32, KeyRange), 8>,
     splits: &[Bound],

@@ -67,8 +67,9 @@ impl PartReply {
     }
 }
 
-/// Asks partitions in order, each for its part of a range, and stops at the first refusal. Refused with `OutOfMemory`,
-/// before the first is asked, if no memory is found for a reply of each.
+/// Asks partitions in order, each for its part of a range, and returns their replies. Stops at the first refusal,
+/// and returns it. Refused with `OutOfMemory`, before the first is asked, if no memory is found for a reply of
+/// each.
 pub fn ask_parts<A: AskPart>(
     alloc: Global,
     partitions: &mut A,
@@ -92,7 +93,8 @@ pub fn ask_parts<A: AskPart>(
     }
 }
 
-/// Asks partitions in order, until one refuses.
+/// Asks partitions in order, and adds their replies to `replies`, which must have room. Stops at the first refusal,
+/// and returns it.
 #[inline(never)]
 fn ask_each<A: AskPart>(
     partitions: &mut A,
@@ -132,7 +134,7 @@ pub fn rows_told(replies: &[PartReply]) -> u64
     total
 }
 
-/// The sum of the sums in replies, between -2^102 and 2^102.
+/// The sum of the sums in replies, from -2^102 to 2^102.
 pub fn sum_told(replies: &[PartReply]) -> i128
     requires small { All (λ (r : PartReply). IsSmall r.reply) replies.now }
     requires few { length replies.now ≤ 64 }

@@ -48,26 +48,26 @@ finished_records b (c ∷ cs) = finished_by b c ++ finished_records (behind_byte
 abbrev pub finished_by_end : Begun → List (List (List ℕ))
 finished_by_end b = if ends_at_end b.state then (b.fields ++ b.field ∷ []) ∷ [] else []
 
--- the parts of an unfinished record that are kept: the state, how many fields are whole, up to 3, and the first
--- bytes of the first two fields
+-- what is kept of an unfinished record: the state, how many fields are whole, where 3 stands for any greater number
+-- too, and the first bytes of the first two fields
 pub record KeptRecord : Type 0 where
   pub state : State
   pub whole : ℕ
   pub first : List ℕ
   pub second : List ℕ
 
--- the first field, whole or current
+-- the first field of a record with these whole fields and this current one
 abbrev pub first_in : List (List ℕ) → List ℕ → List ℕ
 first_in [] field = field
 first_in (f ∷ fields) field = f
 
--- the second field, whole or current, or no bytes if it isn't begun
+-- the second field of such a record, or no bytes if it isn't begun
 abbrev pub second_in : List (List ℕ) → List ℕ → List ℕ
 second_in [] field = []
 second_in (f ∷ []) field = field
 second_in (f ∷ g ∷ fields) field = g
 
--- the parts of an unfinished record that are kept
+-- what is kept of this unfinished record
 abbrev pub kept_of_record : Begun → KeptRecord
 kept_of_record b = record { state = b.state; whole = min 3 (length b.fields); first = take FIELD_BYTES (first_in b.fields b.field); second = take FIELD_BYTES (second_in b.fields b.field) }
 

@@ -16,7 +16,7 @@ use Rattle.crack_session.specs.Calls.{Call}
 use Rattle.crack_csv.specs.Asked.{listing}
 use Rattle.crack_csv.specs.Exports.{record_text, after_listing, AreUnsent}
 
--- the rows of a partition, by rising serial
+-- the rows of a partition with keys of its own, by rising serial
 abbrev pub rows_at : List Bound → ℕ → PlainView → List Row
 rows_at splits part table = rows_in (keys_of_part splits part) table.state.rows
 

@@ -16,7 +16,7 @@ is_header _ = false
 abbrev pub without_header : List (List (List ℕ)) → List (List (List ℕ))
 without_header records = if is_header (slice_index_or records 0 []) then drop 1 records else records
 
--- the row of a record that has exactly two fields, a key and a payload
+-- the row of a record that has exactly two fields, a key and a payload; none for any other record
 abbrev pub new_row_of : List (List ℕ) → Option NewRow
 new_row_of fields = option_map (λ n. record { key = n.0; payload = n.1 }) (two_of key_read payload_read fields)
 

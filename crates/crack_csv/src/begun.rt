@@ -43,8 +43,8 @@ enum Effect {
     EndRecord,
 }
 
-/// What is kept of the unfinished record: how many fields are whole, up to 3, and the first bytes of two fields. It
-/// takes no memory.
+/// What is kept of the unfinished record: the place of the next byte, how many fields are whole, where 3 stands for
+/// any greater number too, and the first bytes of the first two fields. It takes no memory.
 #[derive(Drop)]
 pub(crate) struct BegunRecord {
     place: Place,
@@ -67,7 +67,7 @@ impl Model for BegunRecord {
 }
 
 impl BegunRecord {
-    /// No record is begun yet.
+    /// What is kept before the first byte of a text.
     pub(crate) fn new() -> BegunRecord
         ensures { result ≡ kept_of_record (none_begun st.StartRecord) }
     {
@@ -104,7 +104,7 @@ impl BegunRecord {
         }
     }
 
-    /// Takes the end of the input, and returns whether it ends a record.
+    /// Takes the end of the input, and returns whether it ends a record: false if none is begun.
     pub(crate) fn end(&mut self) -> bool
         ensures kept { result ≡ true → self.new ≡ kept_by act.EndRecord 0 self.old }
         ensures same { result ≡ false → self.new ≡ self.old }
@@ -119,7 +119,7 @@ impl BegunRecord {
         }
     }
 
-    /// The kept bytes of the fields, if exactly two are whole.
+    /// The kept bytes of the two fields; `None` unless exactly two are whole.
     pub(crate) fn fields(&self) -> Option<(&[u8], &[u8])>
         ensures some { IfSome result (λ pair. (self.now.whole ≡ 2) × (pair.0.now ≡ self.now.first)
             × (pair.1.now ≡ self.now.second)) }
@@ -132,7 +132,7 @@ impl BegunRecord {
         }
     }
 
-    /// Begins another record at the same place.
+    /// Begins another record; the place of the next byte stays as it is.
     #[inline(always)]
     pub(crate) fn clear(&mut self)
         ensures { self.new ≡ kept_of_record (none_begun self.old.state) }
@@ -150,7 +150,7 @@ impl BegunRecord {
         self.clear();
     }
 
-    /// Adds a byte to the current field, if there is room.
+    /// Adds a byte to the current field, if that is one of the first two and has room.
     #[inline(always)]
     fn copy(&mut self, byte: u8)
         ensures { self.new ≡ kept_by act.Copy byte self.old }

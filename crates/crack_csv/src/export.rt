@@ -19,7 +19,7 @@ use crack_session::{Desk, Output};
 use std::io::Write;
 
 /// Writes the header `key,payload` and then a record for each row, and returns how many rows there were. Records end
-/// with a line feed. Each partition is asked to list all its rows, which a history keeps if the desk has one. The
+/// with a line feed. Each partition is asked by one command, which counts like any other, to list all its rows. The
 /// output is flushed at the end. The first refusal ends the export: `HistoryFull`, `GateGaveUp`, `OutOfMemory` or
 /// `LifeOver` of a partition, or `WriteFault`. The rows of one partition at a time are in memory; the texts take none.
 pub fn export_csv<D: Desk, W: Write>(
@@ -67,7 +67,8 @@ pub fn export_csv<D: Desk, W: Write>(
     }
 }
 
-/// A core's partitions hold only rows with keys of their own, so an export of the core leaves no row out. Does nothing.
+/// States that an export of a core leaves no row out, because its partitions hold only rows with keys of their own.
+/// Does nothing.
 pub fn leaves_no_row_out(core: &Core)
     ensures { rows_from core.now.splits 0 (tables_of core.now.parts) ≡
         flat_map (λ (table : PlainView). table.state.rows) (tables_of core.now.parts) }
@@ -75,7 +76,8 @@ pub fn leaves_no_row_out(core: &Core)
     core.facts();
 }
 
-/// Lists all rows of one partition, and writes a record for each.
+/// Lists all rows of one partition, writes a record for each, and returns how many there are. Refused as the desk
+/// refuses the command, and with `WriteFault` if the writer fails.
 fn export_part<D: Desk, W: Write>(
     desk: &mut D,
     policy: Policy,
@@ -127,7 +129,8 @@ fn listed(reply: &Reply) -> &[Row]
     }
 }
 
-/// Writes a record for each row: fills the output, and writes it each time it is full and at the end.
+/// Writes a record for each row: fills the output, and writes it each time it is full and at the end. Refused with
+/// `WriteFault` if the writer fails.
 fn write_rows<W: Write>(
     rows: &[Row],
     writer: &mut Watched<W>,

@@ -24,11 +24,12 @@ pub struct LoadFault {
     pub loaded: u64,
 }
 
-/// Inserts the row of each record in a reader's bytes, in order, each into the partition of its key, and returns how
-/// many rows it inserted. A first record of the fields `key` and `payload` is a header, and skipped. Records have
-/// commas and double quotes. Refused with `BadRecord` if a record doesn't have two fields, or a field isn't a number
-/// of 1 to 20 digits in range, for a payload with or without a minus sign; and with `ReadFault` if the reader fails,
-/// or has one more record than `MOST_RECORDS`. Takes only the memory that the desk takes.
+/// Inserts the row of each record in a reader's bytes, in order, each into the partition of its key, and returns
+/// how many rows it inserted. A first record of the fields `key` and `payload` is a header, and is skipped. Commas
+/// separate fields, which may be in double quotes. The first refusal ends the load: `BadRecord` if a record doesn't
+/// have two fields, or a field isn't a number of 1 to 20 digits in range, for a payload with or without a minus
+/// sign; `ReadFault` if the reader fails, or has one more record than `MOST_RECORDS`; or as the desk refuses an
+/// insert. Takes only the memory that the desk takes.
 pub fn load_csv<D: Desk, R: Read>(
     desk: &mut D,
     policy: Policy,
@@ -64,7 +65,8 @@ pub fn load_csv<D: Desk, R: Read>(
     load_reads(desk, &mut loader, reader)
 }
 
-/// Feeds the bytes of a reader to a new loader, up to the end of the input.
+/// Feeds the bytes of a reader to a new loader, up to the end of the input, and returns how many rows were
+/// inserted. Refused as `load_csv` is.
 fn load_reads<D: Desk, R: Read>(
     desk: &mut D,
     loader: &mut Loader,
@@ -95,7 +97,7 @@ fn load_reads<D: Desk, R: Read>(
     Err(unread(loader))
 }
 
-/// The fault of a load whose bytes can't be read on.
+/// The fault of a load whose reader's bytes can't be read to their end.
 fn unread(loader: &Loader) -> LoadFault
     ensures { result ≡ record { refusal = Refusal.ReadFault; loaded = loader.now.loaded } }
 {

@@ -78,8 +78,8 @@ impl Loader {
         self.loaded
     }
 
-    /// Takes the next bytes of the text, and inserts the rows of the records that they finish, in order. A record
-    /// that is refused stops the load, which must not be fed after that.
+    /// Takes the next bytes of the text, and inserts the rows of the records that they finish, in order. The first
+    /// record that is refused ends the load, with a `LoadFault`; the loader must not be fed after that.
     pub fn feed<D: Desk>(&mut self, desk: &mut D, bytes: &[u8]) -> Result<(), LoadFault>
         // Whatever bytes were taken before, the load goes on with these bytes.
         ensures goes_on { OnOk result (Takes D.bounds D.splits D.tables D.accepted D.leads self.old bytes.now desk.old
@@ -100,7 +100,8 @@ impl Loader {
         Ok(())
     }
 
-    /// Takes the end of the text, which finishes an unfinished record, and returns how many rows were inserted.
+    /// Takes the end of the text, which finishes an unfinished record, and returns how many rows the load inserted.
+    /// Refused if that record is.
     pub fn end<D: Desk>(&mut self, desk: &mut D) -> Result<u64, LoadFault>
         // Whatever bytes were taken, the rows of all their records are inserted.
         ensures all { IfOk result (λ count. EndsWith D.bounds D.splits D.tables D.accepted D.leads self.old desk.old
@@ -131,8 +132,8 @@ impl Loader {
         self.begun.end()
     }
 
-    /// Takes one more byte, and inserts the row of a record that it finishes. Refused for the cause for which that
-    /// row isn't inserted.
+    /// Takes one more byte, and inserts the row of the record that it finishes, if it finishes one. If that row isn't
+    /// inserted, refused for the same cause.
     #[inline(always)]
     fn take_byte<D: Desk>(&mut self, desk: &mut D, byte: u8) -> Result<(), Refusal>
         ensures goes_on { OnOk result (Takes D.bounds D.splits D.tables D.accepted D.leads self.old (byte ∷ []) desk.old
@@ -150,7 +151,8 @@ impl Loader {
         Ok(())
     }
 
-    /// Whether a byte is the last of a byte order mark, which isn't part of the text. If so, the text begins after it.
+    /// Takes note of a byte that may belong to a byte order mark, which isn't part of the text. Returns whether the
+    /// byte is the mark's last one; then the text begins after it.
     #[inline(always)]
     fn takes_mark(&mut self, byte: u8) -> bool
         ensures marked { result ≡ true → (before : List ℕ) → IsHead self.old.head before →
@@ -198,7 +200,9 @@ impl Loader {
         false
     }
 
-    /// Inserts the row of the record that has ended, unless it is a header, and begins another record.
+    /// Inserts the row of the record that has ended, unless it is a header, and begins another record. Refused with
+    /// `ReadFault` if `MOST_RECORDS` rows are inserted, with `BadRecord` if the record isn't a row, and as the desk
+    /// refuses the insert.
     fn finish<D: Desk>(&mut self, desk: &mut D) -> Result<(), Refusal>
         ensures goes_on { OnOk result (TakesRecord D.bounds D.splits D.tables D.accepted D.leads self.old desk.old
             desk.new self.new) }
@@ -229,7 +233,7 @@ impl Loader {
         }
     }
 
-    /// Whether the record that has ended is a header.
+    /// Whether the record that has ended is a header: the first record, with the fields `key` and `payload`.
     fn is_at_header(&self) -> bool
         ensures is { result ≡ (self.now.number + 1 == 1 && kept_is_header self.now.kept) }
         ensures first { result ≡ true → self.now.number ≡ 0 }
@@ -246,7 +250,7 @@ impl Loader {
         self.loaded == MOST_RECORDS
     }
 
-    /// The number of the record that has ended.
+    /// The number of the record that has ended, counted from 1; a header is counted too.
     fn next_number(&self) -> u64
         ensures { result ≡ self.now.number + 1 }
     {
@@ -267,7 +271,7 @@ impl Loader {
         new_row(&self.begun)
     }
 
-    /// Counts the record that has ended and the rows inserted for it, and begins another record.
+    /// Counts the record that has ended and the rows inserted for it, 1 or 0, and begins another record.
     fn begin_next(&mut self, rows: u64)
         requires few { self.old.loaded + rows ≤ MOST_RECORDS }
         requires numbered { self.old.number ≤ self.old.loaded + rows }
@@ -302,7 +306,7 @@ fn is_header(begun: &BegunRecord) -> bool
     }
 }
 
-/// The row of a record, if it has exactly two fields, a key and a payload in range.
+/// The row of a record; `None` unless the record has exactly two fields, a key and a payload in range.
 fn new_row(begun: &BegunRecord) -> Option<NewRow>
     ensures { result ≡ kept_row begun.now }
 {

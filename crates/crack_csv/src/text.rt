@@ -13,7 +13,7 @@ pub const RECORD_BYTES: usize = 42;
 /// The header: a record of the names of the two fields.
 pub const HEADER: &[u8] = b"key,payload\n";
 
-/// Adds the record of a row.
+/// Adds the record of a row to a text, which must have room for `RECORD_BYTES` more.
 pub fn push_record<const ROOM: usize>(text: &mut ArrayVec<u8, ROOM>, row: &Row)
     requires { length text.old.items + RECORD_BYTES ≤ ROOM }
     ensures { text.new.items ≡ text.old.items ++ record_text row.now }

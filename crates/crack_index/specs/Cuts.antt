@@ -11,7 +11,7 @@ abbrev pub StartsRise : List (ℕ × ℤ) → Type 0
 StartsRise [] = ⊤
 StartsRise (e ∷ es) = (e.0 < lowest_start es) × StartsRise es
 
--- the piece that contains the key
+-- the piece that contains the key, if there is one
 abbrev pub sum_piece_at : ℕ → List (ℕ × ℤ) → Option (ℕ × ℤ)
 sum_piece_at key [] = None
 sum_piece_at key (e ∷ es) = cond (is_in (record { low = e.0; high = lowest_start es }) key) (Some e) (sum_piece_at key es)
@@ -21,12 +21,12 @@ abbrev pub next_at : ℕ → List (ℕ × ℤ) → ℕ
 next_at key [] = GREATEST_BOUND
 next_at key (e ∷ es) = cond (nat_lt key e.0) e.0 (next_at key es)
 
--- the pieces with one more that begins at the key and has this sum
+-- the pieces with one that begins at the key and has this sum: a new one, or the one that began there
 abbrev pub put : ℕ → ℤ → List (ℕ × ℤ) → List (ℕ × ℤ)
 put key sum [] = (key, sum) ∷ []
 put key sum (e ∷ es) = cond (nat_lt key e.0) ((key, sum) ∷ e ∷ es) (cond (key == e.0) ((e.0, sum) ∷ es) (e ∷ put key sum es))
 
--- the pieces, with the sum of the piece that begins at the key replaced
+-- the pieces, with this sum for the piece that begins at the key, if there is one
 abbrev pub given : ℕ → ℤ → List (ℕ × ℤ) → List (ℕ × ℤ)
 given key sum [] = []
 given key sum (e ∷ es) = cond (key == e.0) ((e.0, sum) ∷ es) (e ∷ given key sum es)
@@ -40,11 +40,13 @@ dropped key (e ∷ es) = cond (key == e.0) es (e ∷ dropped key es)
 abbrev pub IsRest : ℤ → ℤ → ℤ → Type 0
 IsRest whole part rest = IsKnown rest → IsKnown whole × IsKnown part × (whole ≡ part +ℤ rest)
 
--- the keys from the first to the last
+-- the keys from the first to the last, both included
 abbrev pub span : ℕ → ℕ → Range
 span first last = record { low = first; high = last + 1 }
 
--- the result of a walk over the pieces that begin in the range
+-- this may be the result of a walk over the pieces that begin in the range: `Whole`, with their total, if all
+-- their sums are known; `Unknown`, with a key of the range, if not all are; `TooFar` if the absolute values of
+-- their sums add up to 2^127 or more
 abbrev pub Walks : Range → List (ℕ × ℤ) → Walked → Type 0
 Walks range es (Whole total) = (total ≡ total_in range es) × SumsAreKnown range es × StartsRise es
 Walks range es (Unknown start) = IsIn range start × (SumsAreKnown range es → ⊥)

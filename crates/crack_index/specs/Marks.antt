@@ -33,27 +33,27 @@ bounds_of marks = map (λ (m : Mark). m.bound.0) marks
 abbrev pub HasBound : List Mark → ℕ → Type 0
 HasBound marks bound = Contains (bounds_of marks) bound
 
--- the place of the bound
+-- the place of the bound, or 0 if no mark has it
 abbrev pub position_of : ℕ → List Mark → ℕ
 position_of bound [] = 0
 position_of bound (m ∷ ms) = cond (m.bound.0 == bound) m.position (position_of bound ms)
 
--- the first mark whose bound is above the number
+-- the first mark whose bound is above the number, if there is one
 abbrev pub next_mark : ℕ → List Mark → Option Mark
 next_mark number [] = None
 next_mark number (m ∷ ms) = cond (nat_lt number m.bound.0) (Some m) (next_mark number ms)
 
--- the last mark whose bound is at or below the number
+-- the last mark whose bound is at or below the number, if there is one
 abbrev pub last_mark : ℕ → List Mark → Option Mark
 last_mark number [] = None
 last_mark number (m ∷ ms) = cond (nat_le m.bound.0 number) (Some (unwrap_or (last_mark number ms) m)) None
 
--- the first mark after the place
+-- the first mark whose place is after this one, if there is one
 abbrev pub first_behind : ℕ → List Mark → Option Mark
 first_behind place [] = None
 first_behind place (m ∷ ms) = cond (nat_lt place m.position) (Some m) (first_behind place ms)
 
--- the last mark before the place
+-- the last mark whose place is before this one, if there is one
 abbrev pub last_before : ℕ → List Mark → Option Mark
 last_before place [] = None
 last_before place (m ∷ ms) = cond (nat_lt m.position place) (Some (unwrap_or (last_before place ms) m)) None
@@ -75,7 +75,7 @@ piece_at key len marks =
     let high = next_mark key marks in
     record { low = option_map (λ (m : Mark). m.bound) low; high = option_map (λ (m : Mark). m.bound) high; from = start_of low; to = end_of len high }
 
--- the piece between two bounds at these places
+-- the piece between two bounds at these places, with its size
 abbrev pub size_between : Bound → ℕ → Bound → ℕ → PieceSize
 size_between low from high to = record { low = low; high = high; size = to - from }
 

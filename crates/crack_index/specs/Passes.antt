@@ -12,7 +12,7 @@ pub record Progress : Type 0 where
   pub rows : ℕ
   pub bounds : ℕ
 
--- a pass over at most this many of the bounds above a key
+-- the start of a pass over at most `bounds` of the bounds above `key`, by which at most `rows` rows count as few
 abbrev pub pass_above : ℕ → ℕ → ℕ → List Mark → Progress
 pass_above key rows bounds marks = record { after = key; from = start_of (last_mark key marks); rows = rows; bounds = bounds }
 
@@ -21,7 +21,8 @@ abbrev pub first_place : ℕ → List Mark → ℕ
 first_place len [] = len
 first_place len (m ∷ ms) = m.position
 
--- whether few rows lie between the start of the current piece and the first of these marks
+-- whether few rows lie between the start of the piece below the bound that was met last and the first of these
+-- marks
 abbrev pub are_few : ℕ → Progress → List Mark → Bool
 are_few len p ms = nat_le (first_place len ms - p.from) p.rows
 
@@ -39,6 +40,6 @@ abbrev pub next_few : ℕ → Progress → List Mark → Option InnerBound × Pr
 next_few len p [] = (None, p)
 next_few len p (m ∷ ms) = cond (nat_le m.bound.0 p.after) (next_few len p ms) (cond (p.bounds == 0) (None, p) (cond (are_few len (met m p) ms) (Some m.bound, met m p) (next_few len (left_behind m (met m p)) ms)))
 
--- if the pass may meet no more bounds, the key above which those lie that it didn't meet
+-- the key above which all bounds lie that the pass didn't meet, if it may meet no more; otherwise none
 abbrev pub stopped_at : Progress → Option ℕ
 stopped_at p = cond (p.bounds == 0) (Some p.after) None

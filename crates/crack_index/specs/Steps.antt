@@ -41,7 +41,7 @@ pub data StepsDown {V : Type 0} (visits : V → ℕ → Bool → V → Type 0) (
   -- the visitor ends the walk at the mark
   stops : (m : Mark) (way : Way) (v w : V) → m.bound.0 ≤ number → way.ended ≡ None → 0 < m.position → m.position ≢ way.last → visits v (m.position - 1) false w → StepsDown visits number m way v m (record way { ended = Some m }) w
 
--- one step for each mark of a list, in order
+-- one step for each mark of a list, in order: the marks, the walk and the visitor before and after
 pub data Goes {V : Type 0} (step : Mark → Way → V → Mark → Way → V → Type 0) : List Mark → Way → V → List Mark → Way → V → Type 0 where
   here : (way : Way) (v : V) → Goes step [] way v [] way v
   more : (m m' : Mark) (ms ms' : List Mark) (a b c : Way) (u v w : V) → step m a u m' b v → Goes step ms b v ms' c w → Goes step (m ∷ ms) a u (m' ∷ ms') c w

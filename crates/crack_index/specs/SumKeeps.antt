@@ -42,7 +42,7 @@ abbrev pub inside : Range → List (ℕ × ℤ) → List (ℕ × ℤ)
 inside range [] = []
 inside range (e ∷ es) = cond (is_in range e.0) (e ∷ inside range es) (inside range es)
 
--- the start of the first piece that begins at or above this key and whose sum is unknown
+-- the start of the first piece that begins at or above this key and whose sum is unknown, if there is one
 abbrev pub unknown_from : ℕ → List (ℕ × ℤ) → Option ℕ
 unknown_from first [] = None
 unknown_from first (e ∷ es) = cond (nat_le first e.0 && int_eq e.1 UNKNOWN) (Some e.0) (unknown_from first es)

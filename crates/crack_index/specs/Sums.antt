@@ -39,7 +39,7 @@ fits sum = int_le UNKNOWN sum && int_lt sum (pos (2 ^ 127))
 abbrev pub later : ℤ → ℤ → ℤ
 later change sum = cond (int_eq sum UNKNOWN || not (fits (sum +ℤ change))) UNKNOWN (sum +ℤ change)
 
--- the sum of two pieces as one, `UNKNOWN` if either sum is unknown or the result is too far from 0
+-- the sum of two pieces together, `UNKNOWN` if either sum is unknown or the result is too far from 0
 abbrev pub both : ℤ → ℤ → ℤ
 both lower upper = cond (int_eq upper UNKNOWN) UNKNOWN (later upper lower)
 
@@ -78,7 +78,8 @@ abbrev pub distance_in : Range → List (ℕ × ℤ) → ℕ
 distance_in range [] = 0
 distance_in range (e ∷ es) = cond (is_in range e.0) (unsigned_abs e.1 + distance_in range es) (distance_in range es)
 
--- the new pieces come from the old ones by cuts and reported sums: right sums stay right, and each bound stays
+-- the new pieces come from the old ones by cuts and reported sums: right sums stay right, and each end of a piece
+-- stays one
 pub record Extends (says : ℕ → ℕ → ℤ → Type 0) (old new : List (ℕ × ℤ)) : Type 0 where
   pub right : (m : ℕ → ℕ → ℤ) → IsAdditive m → AreTold says m → AreRight m old → AreRight m new
   pub ends : (bound : ℕ) → IsEnd bound old → IsEnd bound new

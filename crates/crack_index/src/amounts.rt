@@ -8,7 +8,7 @@ use crate::source::Source;
 use crate::sums::UNKNOWN;
 use crack_row::{BoundNumber, KeyNumber, KeyRange};
 
-/// The sum after a change by this amount.
+/// The sum after a change by this amount, or `UNKNOWN`.
 #[inline]
 pub(crate) fn later(sum: i128, change: i128) -> i128
     ensures { result ≡ later change sum }
@@ -22,7 +22,7 @@ pub(crate) fn later(sum: i128, change: i128) -> i128
     }
 }
 
-/// The sum of one part of a piece, from the sums of the piece and of the other part.
+/// The sum of one part of a piece, from the sums of the piece and of the other part, or `UNKNOWN`.
 pub(crate) fn rest(whole: i128, part: i128) -> i128
     ensures { IsRest whole part result }
 {
@@ -35,7 +35,7 @@ pub(crate) fn rest(whole: i128, part: i128) -> i128
     }
 }
 
-/// The sum of a piece, from the sums of its two parts.
+/// The sum of a piece, from the sums of its two parts, or `UNKNOWN`.
 #[inline]
 pub(crate) fn whole(lower: i128, upper: i128) -> i128
     ensures { result ≡ both lower upper }

@@ -106,7 +106,8 @@ impl CrackerIndex {
         tree::height(&self.root)
     }
 
-    /// Adds a bound, which isn't in the index yet, at the place. Takes no memory. O(log bounds).
+    /// Adds a bound, which isn't in the index yet, at a place between those of the bounds below and above it.
+    /// There must be room. Takes no memory. O(log bounds).
     pub fn add(&mut self, bound: InnerBound, position: usize)
         requires room { 0 < self.old.room }
         requires absent { HasBound self.old.marks bound.0 → ⊥ }
@@ -123,7 +124,7 @@ impl CrackerIndex {
         self.len += 1;
     }
 
-    /// Removes a bound of the index, and frees a node. Takes no memory. O(log bounds).
+    /// Removes a bound, which must be in the index, and frees a node. Takes no memory. O(log bounds).
     pub fn remove(&mut self, bound: InnerBound)
         requires { HasBound self.old.marks bound.0 }
         ensures marks { self.new.marks ≡ removed bound.0 self.old.marks }
@@ -161,7 +162,7 @@ impl CrackerIndex {
         found
     }
 
-    /// The next bound that a pass finds, in a column of `len` rows.
+    /// The next bound that a pass finds, in a column of `len` rows; `None` once the pass has ended.
     fn find_few(&self, pass: &mut Pass, len: usize) -> Option<InnerBound>
         ensures found { (result, pass.new) ≡ next_few len pass.old self.now.marks }
         ensures there { IfSome result (λ b. HasBound self.now.marks b.0) }
@@ -182,7 +183,7 @@ impl CrackerIndex {
         }
     }
 
-    /// The least bound above this key. O(log bounds).
+    /// The least bound above this key, with its place, or `None` if there is none. O(log bounds).
     pub fn bound_above(&self, key: Key) -> Option<Mark>
         ensures value { result ≡ next_mark key.0 self.now.marks }
         ensures there { IfSome result (λ m. Contains self.now.marks m) }
@@ -191,7 +192,7 @@ impl CrackerIndex {
         tree::next_above(&self.root, key.number())
     }
 
-    /// The greatest bound at or below this key. O(log bounds).
+    /// The greatest bound at or below this key, with its place, or `None` if there is none. O(log bounds).
     pub fn bound_below(&self, key: Key) -> Option<Mark>
         ensures value { result ≡ last_mark key.0 self.now.marks }
         ensures there { IfSome result (λ m. Contains self.now.marks m) }
@@ -233,7 +234,7 @@ impl CrackerIndex {
         tree::piece_sizes(*self.spare.allocator(), &self.root, self.len, keys, len)
     }
 
-    /// Moves each bound at the place down by one. O(log bounds + bounds at that place).
+    /// Moves each bound at the place down by one place. O(log bounds + bounds at that place).
     pub fn lower_at(&mut self, position: usize)
         requires { All (λ m. m.position ≡ position → 0 < position) self.old.marks }
         ensures marks { self.new.marks ≡ map (lowered_at position) self.old.marks }
@@ -246,7 +247,7 @@ impl CrackerIndex {
     }
 
     /// Moves this mark's bound, and each higher bound at the same place, up by one place. Returns the first bound
-    /// that was after that place. O(log bounds + bounds at that place).
+    /// that was after that place, if there was one. O(log bounds + bounds at that place).
     pub fn raise_past(&mut self, mark: Mark) -> Option<Mark>
         requires there { Contains self.old.marks mark }
         requires small { mark.position < usize.MAX }
@@ -313,9 +314,9 @@ impl CrackerIndex {
     {
         raising::raise_down(&mut self.root, most, visitor)
     }
-    /// Walks over the bounds from the lowest up. The visitor is given each, and returns its new place. No bound
-    /// moves before the one below it. Returns the place of the last, or 0 if there is none. O(bounds). Takes no
-    /// memory.
+    /// Walks over the bounds from the lowest up. The visitor is given each, and returns its new place. No bound is
+    /// placed before the one below it. Returns the place of the highest bound, or 0 if there is none. O(bounds).
+    /// Takes no memory.
     pub fn place_each<V: Placer>(&mut self, visitor: &mut V) -> usize
         requires { V.is_ready visitor.old }
         ensures places { Places V.places 0 self.old.marks visitor.old self.new.marks visitor.new result }

@@ -48,7 +48,7 @@ impl Pass {
         }
     }
 
-    /// If the pass may meet no more bounds, the key above which those lie that it didn't meet.
+    /// The key above which all bounds lie that the pass didn't meet, if it may meet no more; otherwise `None`.
     pub fn stopped(&self) -> Option<Key>
         ensures { option_map (λ (k : Key). k.0) result ≡ stopped_at self.now }
     {
@@ -59,8 +59,9 @@ impl Pass {
         }
     }
 
-    /// The next bound whose two pieces hold few rows together, in a column of `len` rows. To go on with the pass,
-    /// the caller must remove it. O(log marks), and a step for each bound that the pass meets.
+    /// The next bound whose two pieces hold few rows together, in a column of `len` rows, or `None` once the pass
+    /// has ended. To go on with the pass, the caller must remove the bound. O(log marks), and a step for each
+    /// bound that the pass meets.
     pub(crate) fn next_few(&mut self, link: &Link, len: usize) -> Option<InnerBound>
         ensures { (result, self.new) ≡ next_few len self.old (marks_in_tree link.now) }
     {
@@ -90,8 +91,9 @@ impl Pass {
         self.after < mark.bound.number()
     }
 
-    /// Goes on to a bound, where the upper piece of the last met bound ends. Returns whether the pass halts: the
-    /// two pieces of the last met bound hold few rows, or it may meet no more.
+    /// Goes on to the next bound, where the upper piece of the last met bound ends. Returns whether the pass
+    /// halts: either the two pieces of the last met bound hold few rows, or the pass may meet no more bounds and
+    /// `last` becomes `None`.
     fn meet(&mut self, last: &mut Option<Mark>, mark: Mark) -> bool
         requires { self.old.after < mark.bound.0 }
         ensures found { (len : ℕ) (ms : List Mark)
@@ -115,8 +117,8 @@ impl Pass {
     }
 }
 
-/// Does the part of a pass that lies in this tree. `last` is the bound that the pass met last. Returns whether it
-/// halted.
+/// Does the part of a pass that lies in this tree. `last` is the mark that the pass met last, if any. Returns
+/// whether the pass halted. O(log marks), and a step for each mark that it meets.
 fn meet_all(link: &Link, pass: &mut Pass, last: &mut Option<Mark>) -> bool
     ensures found { (len : ℕ) (ms : List Mark) → AreAhead last.old pass.old (marks_in_tree link.now)
         → found_from len last.old pass.old (marks_in_tree link.now ++ ms) ≡ found_or result len last.new pass.new ms }

@@ -1,5 +1,5 @@
 //! An AVL tree of pieces in rising order. Each node also stores the total of its subtree, so the total of a range
-//! takes one step per level.
+//! takes one step per level. A total is `UNKNOWN` if one of its sums is, or if 128 bits aren't enough.
 ghost use Rattle.std.specs.Prelude.{◌≡◌, ◌+◌, ◌^◌, ◌<◌, ◌≤◌, max, length, [], ◌∷◌, ◌++◌, ℕ};
 ghost use Rattle.crack_row.specs.declared.TheConstants.{GREATEST_BOUND};
 ghost use Rattle.crack_index.specs.Sums.{IsEnd};
@@ -105,7 +105,7 @@ fn height(link: &Link) -> u32
     }
 }
 
-/// The total of a tree, 0 if it is empty. O(1).
+/// The total of a tree's sums, 0 if it is empty. O(1).
 #[inline]
 fn total(link: &Link) -> i128
     ensures { IsTotal (entries_in_tree link.now) result }
@@ -116,7 +116,7 @@ fn total(link: &Link) -> i128
     }
 }
 
-/// The total of two subtrees and the piece between them. O(1).
+/// The total of two subtrees and the piece between them, or `UNKNOWN`. O(1).
 #[inline]
 fn total_over(left: &Link, sum: i128, right: &Link) -> i128
     ensures { (start : ℕ) → IsTotal (entries_in_tree left.now ++ (start, sum) ∷ entries_in_tree right.now) result }
@@ -124,7 +124,7 @@ fn total_over(left: &Link, sum: i128, right: &Link) -> i128
     amounts::whole(amounts::whole(total(left), sum), total(right))
 }
 
-/// The piece that contains the key. O(log pieces), one comparison per level.
+/// The piece that contains the key, if there is one. O(log pieces), one comparison per level.
 pub(crate) fn last_at(link: &Link, key: KeyNumber) -> Option<Entry>
     requires { StartsRise (entries_in_tree link.now) }
     ensures { result ≡ sum_piece_at key (entries_in_tree link.now) }
@@ -173,7 +173,8 @@ pub(crate) fn next_above(link: &Link, key: KeyNumber) -> BoundNumber
     found
 }
 
-/// The total of the pieces that begin at keys from `first` to `last`. O(log pieces), one step per level.
+/// The total of the pieces that begin at keys from `first` to `last`, or `UNKNOWN`. O(log pieces), one step per
+/// level.
 pub(crate) fn total_between(link: &Link, first: KeyNumber, last: KeyNumber) -> i128
     requires { StartsRise (entries_in_tree link.now) }
     ensures { IsTotal (inside (span first last) (entries_in_tree link.now)) result }
@@ -198,7 +199,7 @@ pub(crate) fn total_between(link: &Link, first: KeyNumber, last: KeyNumber) -> i
     0
 }
 
-/// The total of the pieces that begin at or above `first`. O(log pieces), one step per level.
+/// The total of the pieces that begin at or above `first`, or `UNKNOWN`. O(log pieces), one step per level.
 fn total_from(link: &Link, first: KeyNumber) -> i128
     requires { StartsRise (entries_in_tree link.now) }
     ensures { IsTotal (inside (record { low = first; high = GREATEST_BOUND }) (entries_in_tree link.now)) result }
@@ -222,7 +223,7 @@ fn total_from(link: &Link, first: KeyNumber) -> i128
     sum
 }
 
-/// The total of the pieces that begin at or below `last`. O(log pieces), one step per level.
+/// The total of the pieces that begin at or below `last`, or `UNKNOWN`. O(log pieces), one step per level.
 fn total_to(link: &Link, last: KeyNumber) -> i128
     requires { StartsRise (entries_in_tree link.now) }
     ensures { IsTotal (inside (span 0 last) (entries_in_tree link.now)) result }
@@ -246,8 +247,8 @@ fn total_to(link: &Link, last: KeyNumber) -> i128
     sum
 }
 
-/// The start of the first piece that begins at or above `first` and whose sum is unknown. O(log pieces): subtrees
-/// with a known total aren't searched.
+/// The start of the first piece that begins at or above `first` and whose sum is unknown, if there is one.
+/// O(log pieces): subtrees with a known total aren't searched.
 pub(crate) fn first_unknown(link: &Link, first: KeyNumber) -> Option<KeyNumber>
     requires { StartsRise (entries_in_tree link.now) }
     ensures { result ≡ unknown_from first (entries_in_tree link.now) }
@@ -301,7 +302,7 @@ pub(crate) fn insert(link: Link, entry: Entry, mut node: Box<Node>) -> Box<Node>
     }
 }
 
-/// Sets the sum of the piece that begins at the key. O(log pieces), takes no memory.
+/// Sets the sum of the piece that begins at the key, if there is one. O(log pieces), takes no memory.
 pub(crate) fn give(link: &mut Link, key: KeyNumber, sum: i128)
     requires { StartsRise (entries_in_tree link.old) }
     ensures entries { entries_in_tree link.new ≡ given key sum (entries_in_tree link.old) }
@@ -363,7 +364,8 @@ fn with_children(left: Link, entry: Entry, right: Link, mut node: Box<Node>) -> 
     node
 }
 
-/// Rotates a tree whose left subtree is two levels higher. `spare` becomes a node below the top.
+/// Makes a tree of two subtrees, the left one (`top`) two levels higher, and the piece between them, by a
+/// rotation. `spare` becomes a node below the top. O(1).
 fn lean_left(mut top: Box<Node>, entry: Entry, right: Link, spare: Box<Node>) -> Box<Node>
     requires two_higher { top.value.height ≡ levels_of right + 2 }
     requires fits { top.value.height ≤ 2 ^ 31 }
@@ -389,7 +391,8 @@ fn lean_left(mut top: Box<Node>, entry: Entry, right: Link, spare: Box<Node>) ->
     with_children(Some(before), parts.entry, Some(behind), middle)
 }
 
-/// Rotates a tree whose right subtree is two levels higher. `spare` becomes a node below the top.
+/// Makes a tree of two subtrees, the right one (`top`) two levels higher, and the piece between them, by a
+/// rotation. `spare` becomes a node below the top. O(1).
 fn lean_right(left: Link, entry: Entry, mut top: Box<Node>, spare: Box<Node>) -> Box<Node>
     requires two_higher { top.value.height ≡ levels_of left + 2 }
     requires fits { top.value.height ≤ 2 ^ 31 }

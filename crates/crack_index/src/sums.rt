@@ -45,7 +45,7 @@ pub(crate) enum Walked {
     Whole(i128),
     /// The first piece whose sum is unknown begins here.
     Unknown(KeyNumber),
-    /// The total is too far from 0.
+    /// 128 bits aren't enough for the total.
     TooFar,
 }
 
@@ -83,8 +83,8 @@ impl PieceSums {
         self.len = 0;
     }
 
-    /// Adds this amount to the sum of the piece that contains the key, if it is known. Takes no memory. O(log
-    /// pieces).
+    /// Adds this amount to the sum of the piece that contains the key, if there is one and its sum is known. The
+    /// sum becomes unknown if the result doesn't fit into 128 bits. Takes no memory. O(log pieces).
     pub fn adjust(&mut self, key: Key, change: i128)
         ensures value { self.new ≡ adjusted key.0 change self.old }
         ensures keys { keys_of self.new ≡ keys_of self.old }
@@ -96,8 +96,8 @@ impl PieceSums {
         self.give(start, amounts::later(sum, change));
     }
 
-    /// Joins the piece that begins at the key to the one below it, if both exist. Their sum is known if both sums
-    /// are and it fits. Takes no memory. O(log pieces).
+    /// Joins the piece that begins at the key to the one below it, if both exist. The joint sum is known if both
+    /// sums are known and their total fits into 128 bits. Takes no memory. O(log pieces).
     pub fn join(&mut self, key: Key)
         ensures value { self.new ≡ joined_below key.0 self.old }
         ensures right { (m : ℕ → ℕ → ℤ) → IsAdditive m → AreRight m self.old → AreRight m self.new }
@@ -119,7 +119,8 @@ impl PieceSums {
         self.give(low, amounts::whole(lower, upper));
     }
 
-    /// Removes the piece that begins at the key. Its keys become keys of the piece below it.
+    /// Removes the piece that begins at the key. Its keys become keys of the piece below it, whose sum isn't changed
+    /// here.
     fn drop_at(&mut self, key: KeyNumber)
         requires { IsEnd key self.old }
         ensures value { self.new ≡ dropped key self.old }
@@ -161,7 +162,9 @@ impl PieceSums {
         }
     }
 
-    /// Cuts the piece that contains the key `first` there. Returns false if no memory is found.
+    /// Makes a piece begin at the key `first`: cuts the piece that contains it, or adds one. `last` is the last
+    /// key of the range that is summed: it decides which part the source is asked for. Returns false if no memory
+    /// is found.
     fn cut_low<S: Source>(&mut self, first: KeyNumber, last: KeyNumber, source: &S) -> bool
         ensures more { Extends (S.says source.now) self.old self.new }
         ensures cut { IsTrue result → IsEnd first self.new }
@@ -188,7 +191,8 @@ impl PieceSums {
         self.split_above(start, first, sum, source)
     }
 
-    /// Cuts the piece that contains the key `last` after it. Returns false if no memory is found.
+    /// Makes a piece begin at the key after `last`, unless `last` is the greatest key: cuts the piece that
+    /// contains that key, or adds one. Returns false if no memory is found.
     fn cut_high<S: Source>(&mut self, last: KeyNumber, source: &S) -> bool
         ensures more { Extends (S.says source.now) self.old self.new }
         ensures cut { IsTrue result → IsEnd (last + 1) self.new }
@@ -221,8 +225,9 @@ impl PieceSums {
         self.split_below(start, high, sum, source)
     }
 
-    /// Cuts the piece that begins at `start` at the key `at`, where none begins. Asks the source for the sum of the
-    /// lower part; the upper part gets the rest. Returns false if no memory is found.
+    /// Cuts the piece that begins at `start` at the key `at`, where none begins. Asks the source for the sum of
+    /// the lower part; the upper part gets the rest of `sum`, the piece's sum. Returns false if no memory is
+    /// found.
     fn split_below<S: Source>(
         &mut self,
         start: KeyNumber,
@@ -257,7 +262,7 @@ impl PieceSums {
     }
 
     /// The sum of the keys from `first` to `last`, after asking the source for each unknown sum of the pieces from
-    /// `start` on.
+    /// `start` on. `None` if the source doesn't have one of them, or 128 bits aren't enough.
     fn learned<S: Source>(
         &mut self,
         first: KeyNumber,
@@ -301,7 +306,8 @@ impl PieceSums {
         true
     }
 
-    /// The total of the pieces that begin at `first` to `last`, or the first whose sum is unknown.
+    /// The total of the pieces that begin at keys from `first` to `last`, or the first of them whose sum is
+    /// unknown.
     fn walk(&self, first: KeyNumber, last: KeyNumber) -> Walked
         requires { first ≤ last }
         ensures { Walks (span first last) self.now result }
@@ -319,7 +325,7 @@ impl PieceSums {
         Walked::Unknown(start)
     }
 
-    /// The piece that contains the key: its start and its sum.
+    /// The piece that contains the key, if there is one: its start and its sum. O(log pieces).
     fn piece_at(&self, key: KeyNumber) -> Option<Entry>
         ensures value { result ≡ sum_piece_at key self.now }
         ensures rises { StartsRise self.now }
@@ -328,6 +334,7 @@ impl PieceSums {
     }
 
     /// The start of the first piece that begins above the key, or `GREATEST_BOUND` if there is none.
+    /// O(log pieces).
     fn next_at(&self, key: KeyNumber) -> BoundNumber
         ensures value { result ≡ next_at key self.now }
         ensures rises { StartsRise self.now }
@@ -371,7 +378,7 @@ impl PieceSums {
         true
     }
 
-    /// Sets the sum of the piece that begins at the key.
+    /// Sets the sum of the piece that begins at the key, if there is one. O(log pieces).
     fn give(&mut self, key: KeyNumber, sum: i128)
         ensures value { self.new ≡ given key sum self.old }
         ensures rises { StartsRise self.old }

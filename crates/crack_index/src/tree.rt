@@ -94,7 +94,7 @@ pub(crate) fn height(link: &Link) -> u32
     }
 }
 
-/// The last mark whose bound is at or below the number. O(log marks), one comparison per level.
+/// The last mark whose bound is at or below the number, if there is one. O(log marks), one comparison per level.
 pub(crate) fn last_at(link: &Link, number: KeyNumber) -> Option<Mark>
     ensures { result ≡ last_mark number (marks_in_tree link.now) }
 {
@@ -117,7 +117,7 @@ pub(crate) fn last_at(link: &Link, number: KeyNumber) -> Option<Mark>
     found
 }
 
-/// The first mark whose bound is above the number. O(log marks), one comparison per level.
+/// The first mark whose bound is above the number, if there is one. O(log marks), one comparison per level.
 pub(crate) fn next_above(link: &Link, number: KeyNumber) -> Option<Mark>
     ensures { result ≡ next_mark number (marks_in_tree link.now) }
 {
@@ -140,7 +140,8 @@ pub(crate) fn next_above(link: &Link, number: KeyNumber) -> Option<Mark>
     found
 }
 
-/// The last mark whose bound is at or below the number, and the first above it. O(log marks), one comparison per level.
+/// The last mark whose bound is at or below the number, and the first one above it, if they exist. O(log marks),
+/// one comparison per level.
 pub(crate) fn neighbours(link: &Link, number: KeyNumber) -> (Option<Mark>, Option<Mark>)
     ensures below { result.0 ≡ last_mark number (marks_in_tree link.now) }
     ensures above { result.1 ≡ next_mark number (marks_in_tree link.now) }
@@ -166,7 +167,7 @@ pub(crate) fn neighbours(link: &Link, number: KeyNumber) -> (Option<Mark>, Optio
     (below, above)
 }
 
-/// The first mark after the place. O(log marks), one comparison per level.
+/// The first mark whose place is after this one, if there is one. O(log marks), one comparison per level.
 pub(crate) fn first_behind(link: &Link, place: usize) -> Option<Mark>
     ensures { result ≡ first_behind place (marks_in_tree link.now) }
 {
@@ -189,7 +190,8 @@ pub(crate) fn first_behind(link: &Link, place: usize) -> Option<Mark>
     found
 }
 
-/// Inserts a mark into the tree, in the node that is passed in. O(log marks), takes no memory.
+/// Inserts a mark, whose bound the tree doesn't have yet, in the node that is passed in. O(log marks), takes no
+/// memory.
 pub(crate) fn insert(link: Link, mark: Mark, mut node: Box<Node>) -> Box<Node>
     requires rising { Rising (with_mark mark (marks_in_tree link)) }
     requires few { length (marks_in_tree link) < 2 ^ 64 }
@@ -247,7 +249,8 @@ fn with_children(left: Link, mark: Mark, right: Link, mut node: Box<Node>) -> Bo
     node
 }
 
-/// Rotates a tree whose left subtree is two levels higher. `spare` becomes a node below the top.
+/// Makes a tree of two subtrees, the left one (`top`) two levels higher, and the mark between them, by a rotation.
+/// `spare` becomes a node below the top. O(1).
 fn lean_left(mut top: Box<Node>, mark: Mark, right: Link, spare: Box<Node>) -> Box<Node>
     requires rising { Rising (top.value.marks ++ mark ∷ marks_in_tree right) }
     requires two_higher { top.value.height ≡ height_of right + 2 }
@@ -274,7 +277,8 @@ fn lean_left(mut top: Box<Node>, mark: Mark, right: Link, spare: Box<Node>) -> B
     with_children(Some(before), parts.mark, Some(behind), middle)
 }
 
-/// Rotates a tree whose right subtree is two levels higher. `spare` becomes a node below the top.
+/// Makes a tree of two subtrees, the right one (`top`) two levels higher, and the mark between them, by a
+/// rotation. `spare` becomes a node below the top. O(1).
 fn lean_right(left: Link, mark: Mark, mut top: Box<Node>, spare: Box<Node>) -> Box<Node>
     requires rising { Rising (marks_in_tree left ++ mark ∷ top.value.marks) }
     requires two_higher { top.value.height ≡ height_of left + 2 }
@@ -438,8 +442,8 @@ fn append_pieces(link: &Link, last: &mut Edge, pieces: &mut Vec<PieceSize>)
     append_pieces(right, last, pieces);
 }
 
-/// The sizes of the pieces between the `marks` marks of a tree, and of those at both ends. O(marks). Refused with
-/// `OutOfMemory` if no memory is found.
+/// The sizes of the pieces into which the marks of a tree divide a column of `len` rows whose keys lie in `keys`.
+/// `marks` is the number of marks. O(marks). Refused with `OutOfMemory` if no memory is found.
 pub(crate) fn piece_sizes(
     alloc: Global,
     link: &Link,
@@ -467,7 +471,7 @@ pub(crate) fn piece_sizes(
     Ok(pieces)
 }
 
-/// The end of the piece below a mark.
+/// The edge at a mark, where the piece below it ends.
 fn edge_at(mark: Mark) -> Edge
     ensures { result ≡ record { bound = record { 0 = mark.bound.0 }; position = mark.position } }
 {
@@ -477,7 +481,7 @@ fn edge_at(mark: Mark) -> Edge
     }
 }
 
-/// The size of the piece between two edges, 0 if the second is before the first.
+/// The piece between two edges, with its size: 0 if the second edge is before the first.
 fn piece_between(low: Edge, high: Edge) -> PieceSize
     ensures { result ≡ size_between low.bound low.position high.bound high.position }
 {

@@ -19,8 +19,9 @@ struct Way {
     ended: Option<Mark>,
 }
 
-/// Walks up from the first mark above the number. Returns the mark at which the walk ended. O(log marks), and one
-/// step for each mark at the visited places.
+/// Walks up from the first mark above the number, as `CrackerIndex::climb` does. Returns the mark at which the
+/// visitor ended the walk, or `None` if no mark was left. O(log marks), and one step for each mark at the visited
+/// places.
 #[inline(always)]
 pub(crate) fn climb<V: Visitor>(link: &mut Link, number: KeyNumber, visitor: &mut V) -> Option<Mark>
     requires rising { Rising (marks_in_tree link.old) }
@@ -43,8 +44,9 @@ pub(crate) fn climb<V: Visitor>(link: &mut Link, number: KeyNumber, visitor: &mu
     way.ended
 }
 
-/// Walks down from the last mark at or below the number. Returns the mark at which the walk ended. O(log marks),
-/// and one step for each mark at the visited places.
+/// Walks down from the last mark at or below the number, as `CrackerIndex::descend` does. Returns the mark at
+/// which the walk ended, or `None` if no mark was left. O(log marks), and one step for each mark at the visited
+/// places.
 #[inline(always)]
 pub(crate) fn descend<V: Visitor>(
     link: &mut Link,

@@ -36,7 +36,8 @@ abbrev pub is_none : List ℕ → Bool
 is_none [] = true
 is_none (b ∷ bs) = false
 
--- what a connection does next, once all its texts are written
+-- what a connection does next, once all its texts are written, by why its session stopped, whether no received
+-- bytes wait, and whether its input has ended
 abbrev pub next_taking : Why → Bool → Bool → Next
 next_taking Full none has_ended = Answer
 next_taking Quit none has_ended = Close
@@ -54,13 +55,14 @@ abbrev pub fault_of : Next → Refusal
 fault_of Write = WriteFault
 fault_of _ = ReadFault
 
--- the bytes that a stopped session leaves for later: none after it has ended
+-- the bytes that a session leaves for later when it stops for this reason: all if the output is full, otherwise
+-- none
 abbrev pub left_for_later : Why → List ℕ → List ℕ
 left_for_later Full bytes = bytes
 left_for_later _ bytes = []
 
--- The session of a connection is fed the first of these bytes, and keeps what it doesn't take, if memory is found
--- for that.
+-- The session of a connection is fed the first `taken` of these bytes. The connection keeps the others for later if
+-- the output is full and memory is found for them.
 pub record Answers {D : Type 0} (bounds : D → Bounds) (splits : D → List Bound) (tables : D → Option (List PlainView)) (leads : D → Call → D → Type 0) (old : ConnectionState) (bytes : List ℕ) (desk desk' : D) (out out' : List ℕ) (is_kept : Bool) (new : ConnectionState) : Type 0 where
   pub taken : ℕ
   pub within : taken ≤ length bytes

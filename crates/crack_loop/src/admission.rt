@@ -7,7 +7,8 @@ use std::net::SocketAddr;
 use std::sync::atomic::{AtomicBool, Ordering};
 use std::sync::{Mutex, Wait};
 
-/// The counts of a server's connections. `most` is how many may be accepted.
+/// The counts of a server's connections: those accepted, with accepts that failed, and `most`, how many that may
+/// be; those that are open; those that have ended (`served`), and how many of them were cut off.
 #[derive(Drop)]
 pub(crate) struct Progress {
     accepted: u64,
@@ -148,7 +149,8 @@ impl Admission {
         }
     }
 
-    /// Takes the number of clients that were turned away, and the last of them, if there are any and a report is due.
+    /// Returns how many clients were turned away since the last report, and the last of them, and restarts the
+    /// count. `None` if there are none or no report is due.
     pub(crate) fn take_turned_away<Rt: Wait>(
         &self,
         rt: &Rt,
@@ -168,7 +170,8 @@ impl Admission {
         }
     }
 
-    /// Takes the number of accepts that failed, if there are any and a report is due.
+    /// Returns how many accepts failed since the last report, and restarts the count. `None` if none failed or no
+    /// report is due.
     pub(crate) fn take_failed<Rt: Wait>(&self, rt: &Rt, now: u64, is_end: bool) -> Option<u64> {
         let mut progress = self.progress.lock(rt);
         let count = progress.failed;

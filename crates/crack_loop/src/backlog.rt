@@ -1,4 +1,4 @@
-//! Bytes of a busy connection that wait.
+//! The waiting bytes of a busy connection.
 ghost use Rattle.std.specs.Prelude.{◌≡◌, ◌==◌, [], length, drop, IsOk, OnOk, OnErr};
 
 use std::alloc::{AllocError, Global};

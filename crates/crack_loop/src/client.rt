@@ -61,8 +61,8 @@ impl Client {
         }
     }
 
-    /// Marks the connection as queued, and records whether its client has ended its sending. Returns whether it
-    /// wasn't queued.
+    /// Marks the connection as queued, and records whether its client has finished sending. Returns whether the
+    /// connection wasn't queued before.
     pub(crate) fn is_due(&mut self, is_half_closed: bool) -> bool {
         self.is_half_closed = self.is_half_closed || is_half_closed;
         let is_new = !self.is_queued;
@@ -147,6 +147,7 @@ impl Client {
     }
 
     /// Answers the first `count` bytes that were just read, or the end of the input if `count` is 0, and writes.
+    /// Returns as `read` does.
     fn answer<D: Desk>(
         &mut self,
         alloc: Global,
@@ -173,7 +174,7 @@ impl Client {
     }
 
     /// What follows a read that took all bytes of the stream: the connection waits until the stream is ready, unless
-    /// it has bytes to answer or its client has ended its sending.
+    /// it has bytes to answer or its client has finished sending.
     fn after_all(&self) -> After {
         match self.connection.next() {
             Next::Read if !self.is_half_closed => After::Event,

@@ -98,7 +98,7 @@ impl Connection {
         }
     }
 
-    /// Feeds bytes that were just read to the session, and keeps those that it doesn't take since the output is
+    /// Feeds bytes that were just read to the session, and keeps those that it doesn't take because the output is
     /// full. Refused if no memory is found for them.
     pub fn receive<D: Desk>(
         &mut self,
@@ -176,7 +176,8 @@ impl Connection {
         self.unsent.pass(alloc, count);
     }
 
-    /// The refusal if the connection is cut off now.
+    /// The refusal if the connection is cut off now: `WriteFault` if texts wait to be written, otherwise
+    /// `ReadFault`.
     pub fn fault(&self) -> Refusal
         ensures { result ≡ fault_of (next_of self.now) }
     {

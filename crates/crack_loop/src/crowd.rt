@@ -84,8 +84,8 @@ impl Crowd {
         }
     }
 
-    /// Waits until something happens, or not at all if a turn or an accept is next, and queues the connections that
-    /// are ready.
+    /// Waits for an event, at most `LOOK_MILLIS`, or not at all if a turn or an accept is next, and queues the
+    /// connections that are ready.
     pub(crate) fn wait<Rt: Wait, H: Host>(
         &mut self,
         service: &Service<'_, Rt, H>,
@@ -155,7 +155,8 @@ impl Crowd {
         }
     }
 
-    /// Adds a connection, and queues it for a turn at once.
+    /// Adds a connection, and queues it for a turn at once. The connection is cut off if its stream can't be
+    /// watched or no memory is found.
     fn admit<Rt: Wait, H: Host>(
         &mut self,
         service: &Service<'_, Rt, H>,
@@ -279,8 +280,8 @@ impl Crowd {
         }
     }
 
-    /// Every `LOOK_MILLIS`, cuts off the connections that have waited too long, reports, and allows a failed accept
-    /// to be tried again.
+    /// Every `LOOK_MILLIS`, cuts off the connections that have waited too long, reports what wasn't accepted and
+    /// what was answered, and allows a failed accept to be tried again.
     pub(crate) fn look<Rt: Wait, H: Host>(&mut self, service: &Service<'_, Rt, H>) {
         if !has_passed(LOOK_MILLIS, self.looked, self.now) {
             return;
@@ -308,7 +309,7 @@ impl Crowd {
         }
     }
 
-    /// Why a connection is cut off, if it has waited for `most` milliseconds.
+    /// The refusal with which a connection is cut off, or `None` if it hasn't waited for `most` milliseconds.
     fn overdue(&self, key: usize, most: u64) -> Option<Refusal> {
         match self.clients.get(key) {
             Some(client) if !client.is_queued && has_passed(most, client.heard, self.awake) => {
@@ -350,7 +351,7 @@ impl Crowd {
     }
 }
 
-/// Reports to a client that there are too many. What it has sent is read, since closing a connection with unread
+/// Reports to a client that there are too many. What it has sent is read, because closing a connection with unread
 /// bytes resets it, and the client may not see the refusal.
 fn turn_away(stream: &TcpStream, clients: u64, room: &mut Room) {
     let mut line: ArrayString<40> = ArrayString::new();

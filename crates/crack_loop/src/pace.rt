@@ -3,7 +3,8 @@
 /// For how many seconds statements are remembered.
 pub(crate) const SECONDS: u64 = 60;
 
-/// The statements of the last seconds. The index of a second is its number modulo `SECONDS`.
+/// How many statements were answered in each of the last seconds, and the longest time of a turn in each. The index
+/// of a second is its number modulo `SECONDS`.
 #[derive(Drop)]
 pub(crate) struct Pace {
     answered: [u64; 60],
@@ -13,7 +14,7 @@ pub(crate) struct Pace {
 }
 
 impl Pace {
-    /// No statement was answered before this second.
+    /// A pace without statements, from this second on.
     pub(crate) fn new(second: u64) -> Pace {
         Pace {
             answered: [0; 60],
@@ -40,7 +41,7 @@ impl Pace {
         (sum_of(&self.answered), greatest_of(&self.longest))
     }
 
-    /// Clears the seconds between the last recorded one and this one.
+    /// Clears the seconds after the last recorded one, up to this one, which becomes the last recorded.
     fn go_on(&mut self, second: u64) {
         let passed = second.saturating_sub(self.second).min(SECONDS);
         'seconds: for back in 0..passed {

@@ -67,7 +67,8 @@ pub fn serve_connections<
     Ok(ended)
 }
 
-/// Starts a thread for each desk, and waits until all have ended.
+/// Starts a thread for each desk, waits until all have ended, and returns the desks. Refused with `OutOfMemory` if
+/// no memory is found or a thread can't be started; then no connection is accepted.
 fn serve_posts<Rt: Threads + Wait + Net + Sync, D: Desk + Send + Drop, H: Host + Sync, I: Read>(
     rt: &Rt,
     alloc: Global,
@@ -103,7 +104,8 @@ fn serve_posts<Rt: Threads + Wait + Net + Sync, D: Desk + Send + Drop, H: Host +
     all.ok_or(Refusal::OutOfMemory)
 }
 
-/// Makes the sources and the waker of each thread. Refused with `ReadFault` if the system has no more of them.
+/// Makes the sources and the waker of each of `count` threads. Refused with `ReadFault` if the system has no more
+/// of them, and with `OutOfMemory` if no memory is found.
 fn posts<N: Net>(
     net: &N,
     alloc: Global,

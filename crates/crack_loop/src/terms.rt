@@ -65,8 +65,8 @@ impl<'a, Rt: Wait, H: Host> Service<'a, Rt, H> {
         (clients as u64).saturating_mul(self.wakers.len() as u64) > open
     }
 
-    /// Records that a thread answered statements shortly before `now`, and the longest time of one turn, in
-    /// microseconds.
+    /// Records how many statements a thread answered shortly before `now`, in the host's milliseconds, and the
+    /// longest time of one turn, in microseconds.
     pub(crate) fn note_pace(&self, now: u64, answered: u64, longest: u64) {
         self.pace.lock(self.rt).note(now / 1000, answered, longest);
     }

@@ -15,7 +15,7 @@ ended_carry Buries c = buried c
 ended_carry Evicts c = returned c
 ended_carry Appends c = appended c
 
--- the row in hand isn't a pending deletion
+-- the row in hand isn't doomed: it has no pending deletion
 abbrev pub IsLasting : Carried → Type 0
 IsLasting c = times c.hand.slot (slots c.store.pending_out) ≡ 0
 
@@ -26,7 +26,7 @@ MayEnd Buries c = IsDoomed c
 MayEnd Evicts c = IsLasting c
 MayEnd Appends c = IsLasting c × (piece_end c.store (hand_key c) ≡ length c.store.column)
 
--- the key of a row evicted by this rule isn't below the ceiling
+-- if the rule evicts the row in hand, the row's key isn't below the ceiling
 abbrev pub EvictsOver : Option ℕ → CarryEnd → ℕ → Type 0
 EvictsOver ceiling Buries key = ⊤
 EvictsOver ceiling Evicts key = ¬ IsBelow ceiling key
@@ -37,7 +37,7 @@ pub record PutsIn (policy : Policy) (s t : State) : Type 0 where
   pub advances : Advances policy s t
   pub few : BuriesFew s t
 
--- rows with pending deletions were deleted
+-- rows with pending deletions were deleted, and the pending insertions are unchanged
 pub record TakesOut (policy : Policy) (s t : State) : Type 0 where
   pub advances : Advances policy s t
   pub pending_in : t.pending_in ≡ s.pending_in

@@ -41,7 +41,8 @@ pub record CarriesAll (ceiling : Option ℕ) (r : Range) (s t : State) : Type 0 
   pub carries : CarriesIn ceiling r s from t
   pub none : Finds r (keys_at t.cells t.pending_in) from None
 
--- the first pending insertions in a range were carried, and no memory was found for the next one
+-- the first pending insertions in a range were carried, in order of arrival, and no memory was found for the next
+-- one, which stays
 pub record CarriesSome (ceiling : Option ℕ) (r : Range) (s t : State) : Type 0 where
   pub from : ℕ
   pub last : State
@@ -50,7 +51,7 @@ pub record CarriesSome (ceiling : Option ℕ) (r : Range) (s t : State) : Type 0
   pub left : Finds r (keys_at last.cells last.pending_in) from (Some next)
   pub room : SameButRoom last t
 
--- at most as many pending deletions are gone as pending insertions
+-- from `s` to `t`, at most as many pending deletions are gone as pending insertions
 abbrev pub BuriesFew : State → State → Type 0
 BuriesFew s t = length s.pending_out + length t.pending_in ≤ length t.pending_out + length s.pending_in
 

@@ -48,6 +48,7 @@ pub record MergesNear (s t : State) (r : Range) : Type 0 where
 abbrev pub piece_count : State → Range → ℕ
 piece_count s r = count_by (λ bound. nat_lt r.low bound && nat_lt bound r.high) (bounds_of s.marks) + 1
 
--- if every counter is exact, each row that was inserted moved at most as many rows as the range has pieces
+-- if every counter is exact, the rows that were inserted moved on average at most as many rows as the range has
+-- pieces
 abbrev pub MovesNear : State → State → Range → Type 0
 MovesNear s t r = IsExact t.tally → t.tally.moved + s.tally.put_in * piece_count s r ≤ s.tally.moved + t.tally.put_in * piece_count s r

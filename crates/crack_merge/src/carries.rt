@@ -50,8 +50,9 @@ pub fn carry_range(
     }
 }
 
-/// The place of the first pending insertion in a range, if they are to be carried one after another. `None` if
-/// there is none, or if all were carried at once. O(pending insertions).
+/// Carries all pending insertions in a range at once, if that is worth it and memory is found for all. Otherwise
+/// returns the place of the first one, and they are to be carried one after another. `None` if none is left to
+/// carry. O(pending insertions), and O(pieces) for each carried row.
 fn first_to_carry(store: &mut Store, range: KeyRange, ceiling: Option<Bound>) -> Option<usize>
     requires { IsCeiling (ceiling_of ceiling) range }
     ensures carried { IfNone result (CarriesAll (ceiling_of ceiling) range store.old store.new) }
@@ -67,8 +68,9 @@ fn first_to_carry(store: &mut Store, range: KeyRange, ceiling: Option<Bound>) ->
     Some(first)
 }
 
-/// Carries all pending insertions in a range at once, with or without a ceiling. `first` is the place of the first.
-/// Returns whether it did so. O(pending insertions), and O(pieces) for each carried row.
+/// Carries all pending insertions in a range at once, under the ceiling if there is one. `first` is the place of
+/// the first. Returns whether it did so; if not, none was carried. O(pending insertions), and O(pieces) for each
+/// carried row.
 fn carry_all(store: &mut Store, range: KeyRange, first: usize, ceiling: Option<Bound>) -> bool
     requires ceiling { IsCeiling (ceiling_of ceiling) range }
     requires first { Finds range (keys_at store.old.cells store.old.pending_in) 0 (Some first) }
@@ -123,7 +125,7 @@ fn is_appendable(store: &Store, range: KeyRange) -> bool
     has_all && store.is_uncracked()
 }
 
-/// Appends all pending insertions to the column. Returns whether memory was found for them.
+/// Appends all pending insertions to the column, if memory is found for them. Returns whether it did so.
 fn append_at_once(store: &mut Store) -> bool
     requires { store.old.marks ≡ [] }
     ensures all { IsTrue result → SameButRoom (all_appended store.old) store.new }

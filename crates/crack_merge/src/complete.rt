@@ -108,7 +108,8 @@ fn put_in_at_once(store: &mut Store) -> bool
     carry_at_once(store, keys, 0)
 }
 
-/// Deletes the rows with pending deletions, in order of arrival. The column's last row takes the place of each.
+/// Deletes all rows with pending deletions, in order of arrival, each by a pull that begins with the column's last
+/// row.
 fn take_out_all(store: Store) -> Store
     ensures takes { TakesOut Complete store result }
     ensures all { result.pending_out ≡ [] }

@@ -36,7 +36,7 @@ pub fn pull_range(mut store: Store, range: KeyRange, fillers: KeyRange, seen: us
     pull_rest(store, range, fillers)
 }
 
-/// Deletes the rows that are left after the first ones were pulled in bulk, each by a filler.
+/// Deletes the doomed rows of the range that are left after the first ones were pulled in bulk, with fillers.
 fn pull_rest(store: Store, range: KeyRange, fillers: KeyRange) -> Store
     requires behind { fillers.low < fillers.high → range.high ≤ fillers.low }
     requires room { 0 < store.column_room }
@@ -48,8 +48,8 @@ fn pull_rest(store: Store, range: KeyRange, fillers: KeyRange) -> Store
     }
 }
 
-/// Deletes the rows if there is no filler at or after `seen`: in bulk, if that is worth it and memory is found for
-/// a list of them, otherwise one after another.
+/// Deletes the doomed rows of the range, if there is no filler at or after `seen`: in bulk, if that is worth it
+/// and memory is found for a list of them, otherwise one after another.
 fn pull_unfilled(mut store: Store, range: KeyRange, fillers: KeyRange, seen: usize) -> Store
     requires behind { fillers.low < fillers.high → range.high ≤ fillers.low }
     requires within { seen ≤ length store.pending_in }
@@ -65,7 +65,8 @@ fn pull_unfilled(mut store: Store, range: KeyRange, fillers: KeyRange, seen: usi
     pull_each(store, range, fillers, seen)
 }
 
-/// Deletes the rows one after another, as `pull_range` describes.
+/// Deletes the doomed rows of the range one after another, with fillers as long as there are any, as `pull_range`
+/// describes.
 fn pull_each(mut store: Store, range: KeyRange, fillers: KeyRange, seen: usize) -> Store
     requires behind { fillers.low < fillers.high → range.high ≤ fillers.low }
     requires within { seen ≤ length store.pending_in }
@@ -108,7 +109,7 @@ fn begin(store: Store, fillers: KeyRange, seen: usize) -> (Carrying, usize)
     }
 }
 
-/// Buries the row in hand, and begins the next pull as `begin` does, but in place.
+/// Buries the row in hand, which must be doomed, and begins the next pull as `begin` does, but in place.
 fn bury_and_begin(carrying: &mut Carrying, fillers: KeyRange, seen: usize) -> usize
     requires doomed { IsDoomed carrying.old }
     requires some { 0 < length carrying.old.store.column }

@@ -13,7 +13,7 @@ takes_cell s (Some (Place key payload)) = true
 takes_cell s (Some (Rewrite serial key payload)) = unwrap_or (option_map not (pending_by s serial.0)) false
 takes_cell s _ = false
 
--- whether a change takes a cell while none is free and there are as many as the limit
+-- whether a change takes a cell while no cell is free and there are at least `most` cells
 abbrev pub lacks_cell : ℕ → State → Option Change → Bool
 lacks_cell most s change = nat_le most (length s.cells) && ((length s.free == 0) && takes_cell s change)
 

@@ -48,7 +48,7 @@ abbrev pub left_by_pass : ℕ → Progress → List Mark → List Mark
 left_by_pass len p [] = []
 left_by_pass len p (m ∷ ms) = cond (nat_le m.bound.0 p.after) (m ∷ left_by_pass len p ms) (cond (p.bounds == 0) (m ∷ ms) (cond (are_few len (met m p) ms) (left_by_pass len (met m p) ms) (m ∷ left_by_pass len (left_behind m (met m p)) ms)))
 
--- the state of a pass at its end
+-- the state in which a pass ends that goes over these marks, in a column of `len` rows
 abbrev pub ended_pass : ℕ → Progress → List Mark → Progress
 ended_pass len p [] = p
 ended_pass len p (m ∷ ms) = cond (nat_le m.bound.0 p.after) (ended_pass len p ms) (cond (p.bounds == 0) p (cond (are_few len (met m p) ms) (ended_pass len (met m p) ms) (ended_pass len (left_behind m (met m p)) ms)))
@@ -83,17 +83,17 @@ noted (Some key) s passes = record {
   stopped = option_map (λ number. record { 0 = number }) (stopped_at (ended_pass (length s.column) (pass_of key s) s.marks));
 }
 
--- bounds are forgotten if a pass over them is due, which is recorded, and then the step `Does` is made
+-- if a pass over the bounds is due, it is made and recorded; then the step `Does` is made
 pub record ForgetsAnd (policy : Policy) (Does : State → State → Type 0) (passes : Passes) (s : State) (after : Passes) (t : State) : Type 0 where
   pub notes : after ≡ noted (due_by policy passes s) s passes
   pub does : Does (coarsened (due_by policy passes s) s) t
 
--- a range is read, after all pending rows are merged if that is due, and then a pass over the bounds is made if one
--- is due
+-- all pending rows are merged if that is due, then a pass over the bounds is made if one is due, and then a range
+-- is read
 abbrev pub SettlesBy : Policy → Passes → State → Passes → State → Range → Type 0
 SettlesBy policy passes s after t r = ReadiesAnd (is_merged_first policy s) (λ (ready settled : State). ForgetsAnd policy (λ (coarse read : State). CracksAndMerges policy coarse read r) passes ready after settled) s t
 
--- a read of a range found no memory: either while all pending rows were merged first, and no pass was made, or
+-- a read of a range found no memory: either while all pending rows were merged first, so that no pass was made, or
 -- afterwards
 abbrev pub StopsReadBy : Policy → Passes → State → Passes → State → Range → Type 0
 StopsReadBy policy passes s after t r = ((is_merged_first policy s ≡ true) × StopsAt Complete s t s.keys × (after ≡ passes)) ⊎ ReadiesAnd (is_merged_first policy s) (λ (ready stopped : State). ForgetsAnd policy (λ (coarse read : State). StopsAt policy coarse read r) passes ready after stopped) s t
@@ -103,7 +103,7 @@ pub record ReadsBy (policy : Policy) (passes : Passes) (s : State) (after : Pass
   pub empty : r.high ≤ r.low → (t ≡ s) × (after ≡ passes)
   pub settled : r.low < r.high → SettlesBy policy passes s after t r
 
--- what is done before the reply to a command: the part of its range, if any, that is within the keys is read
+-- what is done before the reply to a command: if it has a range, the part of it that is within the keys is read
 abbrev pub PreparesBy : Policy → Range → Option Range → Passes → State → Passes → State → Type 0
 PreparesBy policy keys None passes s after t = (t ≡ s) × (after ≡ passes)
 PreparesBy policy keys (Some range) passes s after t = ReadsBy policy passes s after t (clipped range keys)
@@ -119,6 +119,6 @@ pub record ServesBy (policy : Policy) (keys : Range) (next : ℕ) (command : Com
   pub prepared : PreparesBy policy keys (range_of command) passes s after ready
   pub performed : Performs next (change_of command) ready t
 
--- a command that found no memory, before its reply or for it
+-- what a command did that found no memory, either before its reply or for the reply
 abbrev pub StopsBy : Policy → Range → Command → Passes → State → Passes → State → Type 0
 StopsBy policy keys command passes s after t = SparesBy policy keys (range_of command) passes s after t ⊎ ((ready : State) × PreparesBy policy keys (range_of command) passes s after ready × SameButRoom ready t)

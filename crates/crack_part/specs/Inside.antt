@@ -19,7 +19,7 @@ use Rattle.crack_part.specs.Parts.{Part, table_of, StopsAt, CracksAndMerges}
 use Rattle.crack_part.specs.Cells.{lacks_cell, is_without_cell, is_cleared_first}
 use Rattle.crack_part.specs.Refusals.{stopped_by, first_cause}
 
--- the row that a change inserts
+-- the row that an insert adds, with this serial
 abbrev pub inserted_row : ℕ → Key → Payload → Row
 inserted_row serial key payload = row_with (record { 0 = serial }) key payload
 
@@ -32,12 +32,12 @@ abbrev pub IsCommon : Range → Range → Option Range → Type 0
 IsCommon range keys None = (clipped range keys).high ≤ (clipped range keys).low
 IsCommon range keys (Some common) = (common ≡ clipped range keys) × (common.low < common.high)
 
--- the intersection of the range that a command reads, if any, with the keys
+-- the intersection of the range that a command reads with the keys; none if it reads no range, or if it is empty
 abbrev pub AreCommon : Option Range → Range → Option Range → Type 0
 AreCommon None keys common = common ≡ None
 AreCommon (Some range) keys common = IsCommon range keys common
 
--- whether a change may be made, where an inserted row gets this serial
+-- what must hold of a store before a change is made to it; an inserted row gets the serial `next`
 abbrev pub MayPerform : ℕ → Option Change → State → Type 0
 MayPerform next None s = Unit {0}
 MayPerform next (Some (Place key payload)) s = IsAdmissible (inserted_row next key payload) s

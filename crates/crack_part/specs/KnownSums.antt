@@ -28,7 +28,7 @@ adds since range row = cond (nat_lt row.serial.0 since) (added_amount range.low 
 abbrev pub sum_before : ℕ → List Row → ℕ → ℕ → ℤ
 sum_before since rows low high = total_by (adds since (record { low = low; high = high })) rows
 
--- the sums of ranges after a row, if there is one, is added
+-- the sums `m` of ranges, to each of which a row, if there is one, adds its amount
 abbrev pub with_row : Option Row → (ℕ → ℕ → ℤ) → ℕ → ℕ → ℤ
 with_row row m low high = m low high +ℤ added_amount low high row
 
@@ -65,7 +65,7 @@ pub record HasMost (s : State) (part whole : Range) : Type 0 where
   pub in_whole : IsCracked s whole
   pub rows : edge s whole.high - edge s whole.low < 2 * (edge s part.high - edge s part.low)
 
--- after a command the known sums are those of the plain rows after it
+-- after a command the known sums are those of the plain rows after it, which a refusal leaves unchanged
 abbrev pub KnowsThen : Known → PlainState → Command → Result Reply Refusal → Type 0
 KnowsThen known plain command (Ok reply) = KnowsSums known (after plain command)
 KnowsThen known plain command (Err refusal) = KnowsSums known plain

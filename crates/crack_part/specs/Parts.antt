@@ -34,11 +34,11 @@ pub record Part : Type 0 where
   pub since : ℕ
   pub store : State
 
--- the plain rows of a partition: the live rows of its store, by rising serial
+-- the plain rows of a partition: the live rows of its store, by rising serial, and the serial of the next one
 abbrev pub state_of : Part → PlainState
 state_of part = record { rows = by_serial (live_rows part.store); next = part.next }
 
--- the plain table of a partition
+-- the plain table of a partition: its plain rows, and its two counts of commands
 abbrev pub table_of : Part → PlainView
 table_of part = record { state = state_of part; folded = part.folded; since = part.since }
 
@@ -80,8 +80,8 @@ pub record IsSound (part : Part) : Type 0 where
   pub few_since : part.since ≤ part.limits.history
   pub lived : accepted_of (table_of part) ≤ part.limits.life
 
--- a partition after a checkpoint: the commands since the last one are counted with those before it, and nothing
--- else changes
+-- a partition after a checkpoint: the count of commands since the last one is added to the count before it and set
+-- to 0, and nothing else changes
 abbrev pub folded_part : Part → Part
 folded_part part = record part { folded = accepted_of (table_of part); since = 0 }
 
@@ -96,7 +96,7 @@ abbrev pub read_by : Policy → Policy
 read_by Auto = Ripple
 read_by policy = policy
 
--- where a merge by this policy moves rows: under ripple, near the range
+-- where a merge by this policy moves rows: under ripple, near the range; nothing is said of the others
 abbrev pub LeavesNear : Policy → State → State → Range → Type 0
 LeavesNear Ripple s t r = MergesNear s t r
 LeavesNear _ s t r = Unit {0}
@@ -114,7 +114,7 @@ pub record CracksAnd (policy : Policy) (Does : State → State → Type 0) (s t 
   pub intact : IsIntact cracked []
   pub does : Does cracked t
 
--- a store is cracked for a range, and then merged
+-- a store is cracked for a range, and then merged, by this policy
 abbrev pub CracksAndMerges : Policy → State → State → Range → Type 0
 CracksAndMerges policy s t r = CracksAnd policy (λ (cracked merged : State). Merges (read_by policy) cracked merged r × LeavesNear (read_by policy) cracked merged r × Tallies (read_by policy) cracked merged) s t r
 
@@ -136,7 +136,7 @@ pub record CoarsensAnd (policy : Policy) (Does : State → State → Type 0) (s 
   pub coarsens : MayCoarsen policy s coarse
   pub does : Does coarse t
 
--- a range is read, after all pending rows are merged if that is due, and bounds are forgotten
+-- all pending rows are merged if that is due, then bounds may be forgotten, and then a range is read
 abbrev pub Settles : Policy → State → State → Range → Type 0
 Settles policy s t r = ReadiesAnd (is_merged_first policy s) (CoarsensAnd policy (λ (coarse settled : State). CracksAndMerges policy coarse settled r)) s t
 
@@ -150,7 +150,7 @@ pub record ReadsRange (policy : Policy) (s t : State) (r : Range) : Type 0 where
 abbrev pub StopsAt : Policy → State → State → Range → Type 0
 StopsAt policy s t r = SameButRoom s t ⊎ ((r.low < r.high) × CracksAnd policy (λ (cracked stopped : State). Stops (read_by policy) cracked stopped r) s t r)
 
--- no memory was found while all pending rows were merged, which was due, or afterwards, where `Stops` holds
+-- no memory was found, either while all pending rows were merged, which was due, or afterwards, where `Stops` holds
 abbrev pub ReadiesOr : Bool → (State → State → Type 0) → State → State → Type 0
 ReadiesOr due Stops s t = ((due ≡ true) × StopsAt Complete s t s.keys) ⊎ ReadiesAnd due Stops s t
 
@@ -159,8 +159,8 @@ ReadiesOr due Stops s t = ((due ≡ true) × StopsAt Complete s t s.keys) ⊎ Re
 abbrev pub StopsRead : Policy → State → State → Range → Type 0
 StopsRead policy s t r = ReadiesOr (is_merged_first policy s) (CoarsensAnd policy (λ (coarse stopped : State). StopsAt policy coarse stopped r)) s t
 
--- what is done to a store before the reply to a command: the part of its range, if any, that is within the keys is
--- read
+-- what is done to a store before the reply to a command: if it has a range, the part of it that is within the keys
+-- is read
 abbrev pub Prepares : Policy → Range → Option Range → State → State → Type 0
 Prepares policy keys None s t = t ≡ s
 Prepares policy keys (Some range) s t = ReadsRange policy s t (clipped range keys)

@@ -18,12 +18,13 @@ abbrev pub is_key_in : Range → Option Key → Bool
 is_key_in keys None = true
 is_key_in keys (Some key) = is_in keys key.0
 
--- why a partition with these limits accepts no more commands: as many were accepted since its last checkpoint as
--- its limit and upkeep is on request, or as many since its opening as its life
+-- why a partition with these limits accepts no more commands, if it doesn't: as many as its history's limit were
+-- accepted since the last checkpoint, and upkeep is on request; or as many as its life were since its opening
 abbrev pub stopped_by : Limits → PlainView → Option Refusal
 stopped_by limits table = if is_full limits table.since then Some (HistoryFull limits.history) else (if nat_le limits.life (accepted_of table) then Some LifeOver else None)
 
--- the first cause to refuse a command: its key is none of these, no more commands are accepted, a cell is missing
+-- the first cause to refuse a command, if any: its key is none of these, no more commands are accepted, or a cell
+-- is missing
 abbrev pub first_cause : Range → Option Refusal → Bool → Command → Option Refusal
 first_cause keys stop lacks command = if is_key_in keys (key_of command) then option_or stop (if lacks then Some NoCell else None) else Some KeyOutside
 

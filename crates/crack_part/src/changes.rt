@@ -18,7 +18,8 @@ use crate::replies::{gone, rewritten};
 use crack_row::{Command, Key, Payload, Refusal, Reply, Row, Serial};
 use crack_store::Store;
 
-/// Inserts a row, which gets the serial `next`, and returns the reply. O(1), amortised.
+/// Inserts a row with the serial `next`, raises `next` by one, and returns the reply. O(1), amortised. Refused with
+/// `OutOfMemory` if no memory is found; then nothing has changed.
 #[inline(always)]
 pub(crate) fn place(
     store: &mut Store,
@@ -48,7 +49,9 @@ pub(crate) fn place(
     Ok(Reply::Placed(row.serial))
 }
 
-/// Deletes the row with this serial, if there is one, and returns the reply. O(log pieces), amortised.
+/// Deletes the row with this serial, if there is one, adjusts the known sums, and returns the reply. `next` is the
+/// serial of the next inserted row. O(log pieces), amortised. Refused with `OutOfMemory` if no memory is found;
+/// then nothing has changed.
 #[inline(never)]
 pub(crate) fn remove(
     store: &mut Store,
@@ -77,7 +80,8 @@ pub(crate) fn remove(
     Ok(gone(row))
 }
 
-/// Replaces the row with the same serial, if there is one, and returns the reply. O(log pieces), amortised.
+/// Replaces the row with the same serial, if there is one, adjusts the known sums, and returns the reply. `next` is
+/// the serial of the next inserted row. O(log pieces), amortised. Refused as `remove` is.
 #[inline(never)]
 pub(crate) fn rewrite(
     store: &mut Store,

@@ -34,7 +34,7 @@ pub(crate) fn coarsen(store: &mut Store, passes: &mut Passes, known: &mut KnownS
     }
 }
 
-/// Makes a pass over the bounds above a key.
+/// Makes a pass over the bounds above a key: forgets the bounds that it finds, and records where it stopped.
 #[inline(never)]
 fn forget_after(store: &mut Store, passes: &mut Passes, known: &mut KnownSums, key: Key)
     ensures coarse { store.new ≡ coarsened (Some key) store.old }

@@ -19,7 +19,7 @@ use std::marker::Model;
 /// rows would take longer than summing again.
 const MOST_PLACED: u64 = 256;
 
-/// A part with at most this many rows is summed itself, whatever the rest of its piece.
+/// A part with at most this many rows is summed itself, however few rows the rest of its piece has.
 const FEW_ROWS: u64 = 512;
 
 /// The known sums of pieces, over the rows inserted before the serial `since`. They are sums of plain rows by key,
@@ -49,7 +49,8 @@ impl KnownSums {
         }
     }
 
-    /// Records that the row with this serial was deleted, if there was one. O(log pieces), amortised.
+    /// Records that the row with this serial was deleted: `row`, or `None` if there was none. `next` is the serial
+    /// of the next inserted row. O(log pieces), amortised.
     pub(crate) fn remove(&mut self, serial: Serial, row: Option<Row>, next: u64)
         ensures knows { (plain : PlainState) → IsNumbered plain → row_in plain.rows serial ≡ row →
             KnowsSums self.old plain → KnowsSums self.new (after plain (Command.Delete serial)) }
@@ -64,7 +65,8 @@ impl KnownSums {
         }
     }
 
-    /// Records that `row` replaced `before`, the row with its serial, if there was one. O(log pieces), amortised.
+    /// Records that `row` replaced `before`, the row with its serial. If `before` is `None`, there was no such row,
+    /// and nothing changes. `next` is the serial of the next inserted row. O(log pieces), amortised.
     pub(crate) fn replace(&mut self, before: Option<Row>, row: Row, next: u64)
         ensures knows { (plain : PlainState) → IsNumbered plain → row_in plain.rows row.serial ≡ before →
             KnowsSums self.old plain →
@@ -89,9 +91,9 @@ impl KnownSums {
         self.pieces.join(bound.key());
     }
 
-    /// The sum of a range for which the store is settled. Parts whose sum isn't known are summed in the store.
-    /// `None` if no memory is found, or if 128 bits aren't enough. O(log pieces) once the sums of the pieces in the
-    /// range are known.
+    /// The sum of a range for which the store is settled. Parts whose sum isn't known are summed in the store, and
+    /// are known afterwards. `next` is the serial of the next inserted row. `None` if no memory is found, or if 128
+    /// bits aren't enough. O(log pieces) once the sums of the pieces in the range are known.
     pub(crate) fn sum(&mut self, store: &Store, next: u64, range: KeyRange) -> Option<i128>
         requires filled { range.low < range.high }
         requires settled { IsSettled store.now range }
@@ -107,7 +109,8 @@ impl KnownSums {
         self.pieces.sum(range, &Settled { store, range })
     }
 
-    /// Adds the rows inserted since the sums were last used, or forgets the sums if there are many such rows.
+    /// Adds the rows inserted since the sums were last used to the known sums, or forgets these if there are many
+    /// such rows. `next` is the serial of the next inserted row.
     fn catch_up(&mut self, store: &Store, next: u64)
         ensures knows { (plain : PlainState) → IsNumbered plain → IsFaithful store.now next plain →
             KnowsSums self.old plain → KnowsSums self.new plain × (self.new.since ≡ next) }
@@ -132,7 +135,8 @@ impl KnownSums {
     }
 }
 
-/// Adds the rows with serials from `from` up to `next` that still exist. O(rows * log pieces).
+/// Adds the payloads of the rows with serials from `from` up to but not including `next`, if they still exist, to
+/// the known sums. O(serials · log pieces).
 fn take_in(pieces: &mut PieceSums, store: &Store, from: u64, next: u64)
     ensures right { (plain : PlainState) → IsNumbered plain → IsFaithful store.now next plain → from ≤ next →
         AreRight (sum_before from plain.rows) pieces.old → AreRight (sum_before next plain.rows) pieces.new }
@@ -145,7 +149,7 @@ fn take_in(pieces: &mut PieceSums, store: &Store, from: u64, next: u64)
     }
 }
 
-/// Adds the payload of a row, if there is one, to the piece of its key.
+/// Adds the payload of a row, if there is one, to the known sum of its key's piece.
 fn add(pieces: &mut PieceSums, row: Option<Row>)
     ensures right { (m : ℕ → ℕ → ℤ) → AreRight m pieces.old → AreRight (with_row row m) pieces.new }
     ensures keys { keys_of pieces.new ≡ keys_of pieces.old }
@@ -210,6 +214,7 @@ impl Source for Settled<'_> {
 
     ghost says = { λ s low high sum. SaysSettled s.store.now s.range low high sum };
 
+    /// The sum of the range, read from the column; `None` if the store isn't settled for the range.
     fn sum(&self, range: KeyRange) -> Option<i128>
         ensures says { IfSome result (λ sum. SaysSettled self.now.store.now self.now.range range.low range.high sum) }
         ensures told { self.now.range.low ≤ range.low → range.high ≤ self.now.range.high →
@@ -221,6 +226,8 @@ impl Source for Settled<'_> {
         Some(self.store.sum_between(range))
     }
 
+    /// Whether the store is settled for the whole range, and the part has more than 512 rows and more than half of
+    /// the whole range's rows.
     fn prefers_rest(&self, part: KeyRange, whole: KeyRange) -> bool
         ensures { IsTrue result → HasMost self.now.store.now part whole }
     {

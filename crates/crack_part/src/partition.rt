@@ -144,8 +144,8 @@ impl Partition {
         let _ = &self.store;
     }
 
-    /// The rows, by rising serial. Cracks and merges nothing. O(cells) if serials rise with the cells, else O(n log
-    /// n) for n rows. Refused with `OutOfMemory` if no memory is found.
+    /// The rows, by rising serial. Cracks and merges nothing. O(cells); O(n log n) more to sort the n rows if their
+    /// serials don't rise with the numbers of their cells. Refused with `OutOfMemory` if no memory is found.
     pub fn rows_in_order(&self) -> Result<Vec<Row>, Refusal>
         ensures ok { IfOk result (λ rows. rows.items ≡ (state_of self.now).rows) }
         ensures err { IfErr result (λ e. e ≡ Refusal.OutOfMemory) }
@@ -153,9 +153,9 @@ impl Partition {
         self.store.live_rows()
     }
 
-    /// Makes a checkpoint: counts the commands since the last one with those before it, and returns how many there
-    /// were. Cracks and merges nothing, changes no row and no later reply, and can't fail. Frees the pending lists'
-    /// unused memory.
+    /// Makes a checkpoint: the count of commands since the last one is added to the count before it, set to 0, and
+    /// returned as it was. Cracks and merges nothing, changes no row and no later reply, and can't fail. Frees the
+    /// pending lists' unused memory. O(1) if these lists have no holes, else O(pending rows).
     pub fn checkpoint(&mut self) -> u64
         ensures since { result ≡ self.old.since }
         ensures folded { self.new ≡ folded_part self.old }
@@ -284,7 +284,7 @@ impl Partition {
         }
     }
 
-    /// Answers a command that lacks no cell, as `apply` does.
+    /// Answers a command for which no cell is missing, as `apply` does.
     #[inline(always)]
     fn apply_with_cell(&mut self, command: Command, policy: Policy) -> Result<Reply, Refusal>
         requires cell { lacks_cell self.old.limits.cells self.old.store (change_of command) ≡ false }
@@ -317,8 +317,8 @@ impl Partition {
         Ok(reply)
     }
 
-    /// Answers a command that may need upkeep. The outcome has a slot of its own here, so that `apply` doesn't
-    /// clear one on entry.
+    /// Answers a command that may need upkeep, as `apply_with_upkeep` does. The outcome is stored here, so that
+    /// `apply` doesn't clear memory for it on entry.
     #[inline(always)]
     fn apply_apart(&mut self, command: Command, policy: Policy) -> Result<Reply, Refusal>
         ensures applies { Applies policy command self.old result self.new }
@@ -337,7 +337,7 @@ impl Partition {
         self.apply_with_cell(command, policy)
     }
 
-    /// Frees the pending lists' unused memory if a checkpoint is due.
+    /// Frees the pending lists' unused memory if a checkpoint is due. Contracts see no change.
     fn shrink_if_due(&mut self)
         ensures { self.new ≡ self.old }
     {
@@ -362,7 +362,7 @@ impl Partition {
         self.since >= self.limits.history
     }
 
-    /// Whether a command takes a cell while none is free and there are as many as the limit. O(1).
+    /// Whether a command takes a cell while no cell is free and there are as many cells as the limit allows. O(1).
     #[inline(always)]
     fn wants_cell(&self, command: &Command) -> bool
         ensures { result ≡ lacks_cell self.now.limits.cells self.now.store (change_of command.now) }
@@ -394,7 +394,8 @@ impl Partition {
         self.clear()
     }
 
-    /// Merges all pending rows, which frees the cells of the pending deletions.
+    /// Merges all pending rows, which frees the cells of the pending deletions. Refused with `OutOfMemory` if no
+    /// memory is found; the merge may then be made in part.
     fn clear(&mut self) -> Result<(), Refusal>
         requires waits { 0 < length self.old.store.pending_out }
         ensures cleared { OnOk result (CracksAndMerges Policy.Complete self.old.store self.new.store
@@ -421,7 +422,8 @@ impl Partition {
         self.is_at_limit() && !is_automatic(self.limits.upkeep)
     }
 
-    /// Refuses a command for the first cause other than a missing cell, before memory is allocated.
+    /// Refuses a command for the first of these causes that holds: `KeyOutside`, `HistoryFull`, `LifeOver`. O(1).
+    /// Changes nothing.
     #[inline(always)]
     fn may_keep(&self, command: &Command) -> Result<(), Refusal>
         ensures ok { OnOk result (early_refusal_of self.now command.now ≡ None) }
@@ -453,7 +455,7 @@ fn is_automatic(upkeep: Upkeep) -> bool
     }
 }
 
-/// Whether a command takes a cell while none is free and there are as many as `most`. O(1).
+/// Whether a command takes a cell while no cell is free and there are at least `most` cells. O(1).
 #[inline(always)]
 fn lacks_cell(store: &Store, most: u64, command: &Command) -> bool
     ensures { result ≡ lacks_cell most store.now (change_of command.now) }
@@ -473,7 +475,7 @@ fn takes_cell(store: &Store, command: &Command) -> bool
     }
 }
 
-/// Whether the command has no key, or one of these.
+/// Whether the command has no key of its own, or one that is among these.
 #[inline(always)]
 fn allows(keys: KeyRange, command: &Command) -> bool
     ensures { result ≡ is_key_in keys (key_of command.now) }
@@ -484,7 +486,8 @@ fn allows(keys: KeyRange, command: &Command) -> bool
     }
 }
 
-/// Answers a command: settles the store for its range, replies, and makes its change.
+/// Answers a command: settles the store for its range, replies, and makes its change. Refused with `OutOfMemory` if
+/// no memory is found; then the change isn't made, but the store may be settled in part or as a whole.
 #[inline(always)]
 fn answer(
     store: &mut Store,
@@ -524,7 +527,7 @@ fn answer(
 }
 
 /// Settles the store for the intersection of a range with the keys, and returns the intersection. Cracks and merges
-/// nothing, and returns `None`, if the intersection is empty or there is no range.
+/// nothing, and returns `None`, if the intersection is empty or there is no range. Refused as `settle` is.
 #[inline(always)]
 fn prepare(
     store: &mut Store,

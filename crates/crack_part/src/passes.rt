@@ -12,11 +12,11 @@ const FEW_BOUNDS: usize = 64;
 const MOVES_OF_A_BOUND: u64 = 64;
 
 /// With more bounds than this there may be too many. If there are, a pass is due once merges have moved any row,
-/// since one row that goes past all bounds makes a read wait.
+/// because a row that goes past all bounds delays a read.
 const MANY_BOUNDS: usize = 4096;
 
-/// Bounds are too many only if there is more than one for this many rows. A pass leaves at most half as many, so
-/// most bounds that the next pass meets are new.
+/// Bounds are too many only if there is more than one for this many rows. A pass leaves at most half as many bounds
+/// as that allows, so most bounds that the next pass meets are new.
 const ROWS_OF_A_BOUND: usize = 256;
 
 /// How far the passes over the bounds of a partition have come.
@@ -29,7 +29,7 @@ pub(crate) struct Passes {
 }
 
 impl Passes {
-    /// What is recorded before the first pass.
+    /// The record before the first pass.
     pub(crate) fn new() -> Passes
         ensures { result ≡ record { counted = 0; stopped = None } }
     {
@@ -39,7 +39,7 @@ impl Passes {
         }
     }
 
-    /// The key above which a pass over the store's bounds is due, if one is due. O(1).
+    /// The key above which a pass over the store's bounds is due; `None` if no pass is due. O(1).
     #[inline(always)]
     pub(crate) fn due(&self, store: &Store) -> Option<Key>
         ensures { result ≡ due_after self.now store.now }
@@ -58,7 +58,7 @@ impl Passes {
         }
     }
 
-    /// Records that a pass was made, up to this key if it stopped before the last bound.
+    /// Records that a pass was made. `stopped` is the key at which it stopped; `None` if it reached the last bound.
     pub(crate) fn note(&mut self, store: &Store, stopped: Option<Key>)
         ensures { self.new ≡ record { counted = moves_of store.now; stopped = stopped } }
     {

@@ -23,7 +23,8 @@ const GREATEST_SUM: i128 = 79228162514264337593543950336;
 const CELLS_AHEAD: usize = 8;
 
 /// How many rows have their key in a range: the difference of two places of the column. `common` is the
-/// intersection of the range with the keys, if any, for which the store is settled.
+/// intersection of the range with the partition's keys, for which the store must be settled, or `None` if it is
+/// empty.
 #[inline(never)]
 pub(crate) fn count(store: &Store, common: Option<KeyRange>) -> u64
     requires settled { IfSome common (λ r. IsSettled store.now r) }
@@ -38,7 +39,7 @@ pub(crate) fn count(store: &Store, common: Option<KeyRange>) -> u64
 }
 
 /// The sum of the payloads of the rows whose key is in a range, with `common` as for `count`. Adds the known sums
-/// of pieces, and reads the column for the others.
+/// of pieces, and reads the column for the others. `next` is the serial of the next inserted row.
 #[inline(never)]
 pub(crate) fn sum(store: &Store, known: &mut KnownSums, next: u64, common: Option<KeyRange>) -> i128
     requires filled { IfSome common (λ r. r.low < r.high) }

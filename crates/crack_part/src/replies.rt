@@ -14,7 +14,7 @@ pub struct Copies {
     pub reply: Reply,
     /// For the worker's receipt.
     pub receipt: Reply,
-    /// For the history.
+    /// For the entry in the partition's list, which an audit keeps.
     pub kept: Reply,
 }
 
@@ -42,7 +42,7 @@ pub(crate) fn rewritten(row: Option<Row>) -> Reply
     }
 }
 
-/// A reply with its copies.
+/// Makes the copies of a reply. Refused with `OutOfMemory` if no memory is found for the copies of a list.
 #[inline(always)]
 pub(crate) fn copied(reply: Reply, alloc: Global) -> Result<Copies, Refusal>
     ensures ok { IfOk result (λ copies. (copies.reply ≡ reply) × (copies.receipt ≡ reply) × (copies.kept ≡ reply)) }
@@ -58,7 +58,7 @@ pub(crate) fn copied(reply: Reply, alloc: Global) -> Result<Copies, Refusal>
     })
 }
 
-/// A copy of a reply. `Reply::Placed`, the most frequent one, is copied in place.
+/// A copy of a reply; inlined for `Reply::Placed`, the most frequent one. Refused as `copied` is.
 #[inline(always)]
 fn copy_of(reply: &Reply, alloc: Global) -> Result<Reply, Refusal>
     ensures ok { IfOk result (λ copy. copy ≡ reply.now) }

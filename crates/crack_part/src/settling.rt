@@ -21,8 +21,9 @@ use std::mem;
 
 /// Settles the store for a range: cracks the column at its ends, and merges until no row in it is pending. Under
 /// `Policy::Auto`, all pending rows are merged first if many insertions are pending, as a count of all keys does
-/// under `Policy::Complete`; then bounds may be forgotten, the store is cracked beside ends that say little, and
-/// the range is read under `Policy::Ripple`.
+/// under `Policy::Complete`; then bounds may be forgotten, the store is also cracked beside ends that say little
+/// about their pieces, and rows are merged as under `Policy::Ripple`. Refused with `OutOfMemory` if no memory is
+/// found; what was merged, forgotten and cracked by then stays so.
 #[inline(never)]
 pub(crate) fn settle(
     store: &mut Store,
@@ -47,7 +48,7 @@ pub(crate) fn settle(
     crack_and_merge(store, alloc, keys, range, policy)
 }
 
-/// Merges all pending rows, if that is due before a range is read.
+/// Merges all pending rows if `is_merged_first` says so. Refused as `crack_and_merge` is.
 #[inline(always)]
 fn make_ready(
     store: &mut Store,
@@ -68,7 +69,8 @@ fn make_ready(
     Ok(())
 }
 
-/// Whether all pending rows are merged before a range is read. O(1).
+/// Whether all pending rows are merged before a range is read: under `Policy::Auto`, if many insertions are
+/// pending. O(1).
 #[inline(always)]
 fn is_merged_first(policy: Policy, store: &Store) -> bool
     ensures { result ≡ is_merged_first policy store.now }
@@ -79,7 +81,8 @@ fn is_merged_first(policy: Policy, store: &Store) -> bool
     }
 }
 
-/// Cracks the store at the ends of a range, and merges by the policy what the range needs.
+/// Cracks the store at the ends of a range, and merges by the policy what the range needs. Refused with
+/// `OutOfMemory` if no memory is found; the store may then be cracked, and merged in part.
 #[inline(never)]
 pub(crate) fn crack_and_merge(
     store: &mut Store,
@@ -106,7 +109,7 @@ pub(crate) fn crack_and_merge(
 }
 
 /// Cracks the store at the ends of a range. Under `Policy::Auto`, cracks first beside each end that says little
-/// about its piece.
+/// about its piece. Refused with `OutOfMemory` if no memory is found; then nothing has changed.
 #[inline(always)]
 fn crack(store: &mut Store, range: KeyRange, policy: Policy) -> Result<(), Refusal>
     ensures cracked { OnOk result (CracksBy policy store.old store.new range) }
@@ -122,8 +125,9 @@ fn crack(store: &mut Store, range: KeyRange, policy: Policy) -> Result<(), Refus
     }
 }
 
-/// Merges by the policy what a range needs, at whose ends the store was cracked. Never inlined: it needs room for
-/// two stores by value, which a range without pending rows doesn't need.
+/// Merges by the policy what a range needs, at whose ends the store must be cracked. Refused with `OutOfMemory` if
+/// no memory is found; the merge may then be made in part. Never inlined: it takes stack for two stores by value,
+/// which a range without pending rows doesn't need.
 #[inline(never)]
 fn merge_cracked(
     store: &mut Store,
@@ -154,8 +158,8 @@ fn merge_cracked(
     }
 }
 
-/// Merges by the policy what a range needs, at whose ends the store was cracked. `Policy::Auto` merges as
-/// `Policy::Ripple` here.
+/// Merges by the policy what a range needs, at whose ends the store must be cracked. `Policy::Auto` merges as
+/// `Policy::Ripple` here. A refusal returns the store too, merged in part.
 fn merge(
     store: Store,
     range: KeyRange,
@@ -180,7 +184,7 @@ fn merge(
 }
 
 /// Whether so many insertions are pending that merging all of them is expected to cost less than passing over them
-/// repeatedly. O(1).
+/// repeatedly: 64 times their number is at least the column's rows times its pieces. O(1).
 fn has_many_pending(store: &Store) -> bool
     ensures { result ≡ nat_le (length store.now.column * (length store.now.marks + 1))
         (64 * length store.now.pending_in) }

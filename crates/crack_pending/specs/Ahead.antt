@@ -22,11 +22,12 @@ pub record AreCandidates (codes : List ℕ) (first last from to : ℕ) (candidat
   pub inside : (k : ℕ) → next ≤ k → k < length candidates → (from ≤ slice_index candidates k) × (slice_index candidates k < to)
   pub rising : (j k : ℕ) → j < k → k < length candidates → slice_index candidates j < slice_index candidates k
 
--- the candidates that were found ahead of time are right
+-- the candidates that were found ahead of time are right: from `next` on, they rise, lie among the searched spots,
+-- and include each of these whose code is searched for
 abbrev pub IsAhead : List ℕ → Ahead → Type 0
 IsAhead codes ahead = AreCandidates codes ahead.first ahead.last ahead.from ahead.to ahead.candidates.items ahead.next
 
--- from `start` up to `near` no code is `first` to `last`
+-- from `start` up to but not including `near`, no code is `first` to `last`
 pub record IsNext (codes : List ℕ) (first last start near : ℕ) : Type 0 where
   pub after : start ≤ near
   pub within : near ≤ length codes

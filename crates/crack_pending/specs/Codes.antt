@@ -6,7 +6,7 @@ use Rattle.crack_arena.specs.Rows.{unknown}
 use Rattle.crack_arena.specs.Memories.{Memory, nothing}
 use Rattle.crack_pending.specs.Keeps.{HasRow}
 
--- the codes of the first spots, and how keys are coded
+-- the codes of the first spots, and how keys are coded: `base` is subtracted, and the low `shift` bits are dropped
 pub record Coding : Type 0 where
   pub codes : List ℕ
   pub base : ℕ

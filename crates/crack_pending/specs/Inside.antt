@@ -7,7 +7,7 @@ use Rattle.crack_arena.specs.Rows.{key_at, unknown}
 use Rattle.crack_arena.specs.Memories.{Memory, nothing, Agrees}
 use Rattle.crack_pending.specs.Keeps.{HasRow, LeadsTo}
 
--- the key is `low` to `last`
+-- the key or code is at least `low` and at most `last`
 abbrev pub Lies : ℕ → ℕ → ℕ → Type 0
 Lies low last key = (low ≤ key) × (key ≤ last)
 

@@ -6,7 +6,7 @@ use Rattle.crack_arena.specs.Arena.{Handle, times, slots, no_handle}
 use Rattle.crack_arena.specs.Memories.{Memory}
 use Rattle.crack_pending.specs.Spots.{kept}
 
--- the bit of the number is set
+-- the bit of the number is set in these words of 64 bits
 unfoldable pub Has : List ℕ → ℕ → Type 0
 Has words number = bit_at (slice_index words (number / 64)) (number % 64) ≡ 1
 
@@ -21,7 +21,7 @@ place_at bs zero = 0
 place_at [] (suc n) = 0
 place_at (b ∷ bs) (suc n) = cond b 1 0 + place_at bs n
 
--- the remembered keys
+-- the keys that are remembered, in order
 abbrev pub keys_of : List Memory → List ℕ
 keys_of remembered = map (λ (m : Memory). m.key) remembered
 

@@ -12,8 +12,8 @@ use Rattle.crack_pending.specs.Keeps.{place_at, HasRow, keys_of}
 use Rattle.crack_pending.specs.Pending.{rows_inside, rows_outside}
 use Rattle.crack_pending.specs.Spots.{kept}
 
--- the rows in the range before the spot `start`, `count` of them, were moved to the list, and the other rows are
--- unchanged, `unknowns` of which have unknown keys
+-- the rows in the range before the spot `start`, `count` of them, were moved from the spots to the list `taken`,
+-- after the handles `came`; the other rows are unchanged, and `unknowns` of them have unknown keys
 pub record IsPassed (cells : List (Cell Row)) (range : Range) (handles : List Handle) (remembered : List Memory) (before after : List Bool) (codes : Coding) (came taken : List Handle) (gone : List Memory) (start count unknowns : ℕ) : Type 0 where
   pub within : start ≤ length handles
   pub missed : IsMissed range cells handles after 0 start

@@ -50,6 +50,6 @@ Finds range keys from None = NoneIn range keys from (length keys)
 abbrev pub rows_inside : List (Cell Row) → Range → List Handle → List Handle
 rows_inside cells range handles = filter (λ h. is_in range (key_at cells h)) handles
 
--- the other handles, in order
+-- the handles whose rows have their key outside the range, in order
 abbrev pub rows_outside : List (Cell Row) → Range → List Handle → List Handle
 rows_outside cells range handles = filter (λ h. not (is_in range (key_at cells h))) handles

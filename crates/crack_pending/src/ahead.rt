@@ -1,5 +1,6 @@
-//! Candidates: spots whose codes lie in the searched range. A pass over codes finds many of them ahead of time, so
-//! that the next search finds them ready.
+//! Candidates: spots whose codes lie in the searched range. A spot is an index into a list's vectors; its code is
+//! a 16-bit number that never falls as its row's key rises. A pass over codes finds many candidates ahead of time,
+//! so that the next search finds them ready.
 ghost use Rattle.std.specs.Prelude.{◌≡◌, ◌+◌, ◌-◌, ◌<◌, ◌≤◌, ℕ, length, List, [], slice_index};
 ghost use Rattle.std.specs.Prelude.{vec_len, vec_capacity};
 ghost use Rattle.crack_pending.specs.Inside.{Lies};
@@ -76,8 +77,8 @@ impl Ahead {
         self.candidates.shrink_to(0);
     }
 
-    /// The first candidate at or after `start`, or the spot where the search ended without one. Without memory it
-    /// searches no further.
+    /// The first spot at or after `start` whose code is `first` to `last`, or the spot where the search ended
+    /// without one. It ends early if no memory is found for candidates.
     pub(crate) fn seek(&mut self, codes: &[u16], first: u16, last: u16, start: usize) -> usize
         requires order { first ≤ last }
         requires low { last < 65535 }
@@ -92,7 +93,8 @@ impl Ahead {
         self.near()
     }
 
-    /// Starts again at `start` if other codes are searched for, or if `start` lies outside the searched spots.
+    /// Drops the candidates and starts again at `start`, if they are of other codes than `first` to `last` or
+    /// `start` lies outside the searched spots.
     fn turn_to(&mut self, first: u16, last: u16, start: usize)
         requires order { first ≤ last }
         requires low { last < 65535 }
@@ -126,7 +128,7 @@ impl Ahead {
         self.next = first_behind(&self.candidates, self.next, start);
     }
 
-    /// Finds the next candidates if all were passed; finds none without memory.
+    /// Finds further candidates if all were passed, or none if no memory is found. O(spots that are searched).
     fn look_on(&mut self, codes: &[u16])
         requires ahead { IsAhead codes.now self.old }
         ensures ahead { IsAhead codes.now self.new }
@@ -155,7 +157,7 @@ impl Ahead {
         );
     }
 
-    /// Reads the cells of all candidates, if they weren't read yet.
+    /// Reads the cells of all candidates, if they weren't read yet, so that they are in the cache.
     #[inline]
     pub(crate) fn warm(&mut self, tags: &TagList, arena: &Arena<Row>)
         ensures { (codes : List ℕ) → IsAhead codes self.old → IsAhead codes self.new }
@@ -179,7 +181,7 @@ impl Ahead {
     }
 }
 
-/// The first position in the list, from `next` on, whose candidate isn't before `start`.
+/// The first position in the list, from `next` on, whose candidate isn't before `start`, or the list's end.
 fn first_behind(candidates: &[usize], next: usize, start: usize) -> usize
     ensures after { next ≤ result }
     ensures passed { (k : ℕ) → next ≤ k → k < result → slice_index candidates.now k < start }
@@ -192,7 +194,7 @@ fn first_behind(candidates: &[usize], next: usize, start: usize) -> usize
     place
 }
 
-/// The number of candidates whose cells have a row.
+/// The number of candidates whose cells have a row. Reads the cells of all.
 #[inline(never)]
 fn live_cells(candidates: &[usize], tags: &TagList, arena: &Arena<Row>) -> usize {
     let mut live = 0;
@@ -205,7 +207,7 @@ fn live_cells(candidates: &[usize], tags: &TagList, arena: &Arena<Row>) -> usize
     live
 }
 
-/// Appends the candidates at the spots `from..to`.
+/// Appends the spots in `from..to` whose codes are `first` to `last`. There must be room.
 fn gather_between(
     candidates: &mut Vec<usize>,
     codes: &[u16],
@@ -231,8 +233,8 @@ fn gather_between(
     }
 }
 
-/// Fills the list with candidates from `from` on, as many as it has room for, and returns the spot up to which all
-/// were found.
+/// Fills the empty list with the spots from `from` on whose codes are `first` to `last`, at most `MOST_AHEAD`.
+/// Returns the spot up to which all were found.
 pub(crate) fn gather(
     candidates: &mut Vec<usize>,
     codes: &[u16],

@@ -72,7 +72,7 @@ impl BitSet {
         (self.words[place] >> (number as usize % WORD)) & 1 == 1
     }
 
-    /// Adds the number to the set. O(1).
+    /// Adds the number, for which there must be a bit, to the set. O(1).
     #[inline]
     pub(crate) fn put(&mut self, number: u32)
         requires { number < 64 * length self.old }
@@ -83,7 +83,7 @@ impl BitSet {
         self.words[number as usize / WORD] |= 1u64 << (number as usize % WORD);
     }
 
-    /// Removes the number from the set. O(1).
+    /// Removes the number, for which there must be a bit, from the set. O(1).
     #[inline]
     pub(crate) fn strike(&mut self, number: u32)
         requires { number < 64 * length self.old }
@@ -95,7 +95,8 @@ impl BitSet {
     }
 }
 
-/// Appends words without bits until there are at least `wanted` and the vector's memory is full.
+/// Appends zero words until there are at least `wanted` and the vector's memory is full. Refused with
+/// `OutOfMemory` if no memory is found.
 #[inline(never)]
 fn lengthen_words(words: &mut Vec<u64>, wanted: usize) -> Result<(), Refusal>
     requires { vec_len words.old < wanted }

@@ -1,12 +1,12 @@
-//! Closing up of holes.
+//! Closing up of holes: the spots of removed rows.
 ghost use Rattle.std.specs.Prelude.{◌≡◌, ◌≤◌, length, vec_len, vec_capacity};
 ghost use Rattle.crack_pending.specs.Keeps.{place_at, IsClosed};
 ghost use Rattle.crack_pending.specs.Spots.{kept};
 
 use crack_tags::TagList;
 
-/// Closes up all holes, and keeps the order of the rows. The spots must be noted anew afterwards. O(spots), and
-/// O(1) if there are no holes.
+/// Closes up all holes, and keeps the order of the rows. `rows` is their number, and `stands` says which spots
+/// have one. The spots must be noted anew afterwards. O(spots), and O(1) if there are no holes.
 pub(crate) fn close_up(tags: &mut TagList, stands: &mut Vec<bool>, rows: usize)
     requires remembered { length tags.old.remembered ≡ length tags.old.handles }
     requires stands { vec_len stands.old ≡ length tags.old.handles }

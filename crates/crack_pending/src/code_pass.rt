@@ -1,4 +1,5 @@
-//! Passes over the codes of pending rows.
+//! Passes over the codes of pending rows. A spot is an index into a list's vectors; `stands` says which spots have
+//! a row. The others are holes.
 ghost use Rattle.std.specs.Prelude.{◌≡◌, ◌+◌, ◌-◌, ◌<◌, ◌≤◌, ◌↔◌, ℕ, length, slice_index, slice_index_or, MatchOption};
 ghost use Rattle.std.specs.Prelude.{IsTrue, IsFalse};
 ghost use Rattle.std.specs.Bool.{OnFalse};
@@ -21,7 +22,7 @@ const BLOCK: usize = 32;
 /// The number of codes that are read at a time while a pass finds no match.
 const MANY: usize = 128;
 
-/// The codes of a range's first and last key, and of an unknown key.
+/// The codes of a range's first and last key, and of an unknown key; and whether some keys are unknown.
 #[derive(Clone, Copy)]
 pub(crate) struct Window {
     pub(crate) first: u16,
@@ -31,7 +32,7 @@ pub(crate) struct Window {
 }
 
 impl Window {
-    /// The codes for what a pass looks for.
+    /// The window for what a pass looks for, in these codes.
     pub(crate) fn of(wanted: Wanted, codes: &Codes, range: KeyRange) -> Window
         requires low { range.low ≡ wanted.low }
         requires last { range.high ≡ wanted.last + 1 }
@@ -83,7 +84,7 @@ pub(crate) fn any_lies(codes: &[u16], low: u16, last: u16) -> bool
     any != 0
 }
 
-/// Does what `any_lies` does for 128 codes.
+/// Does what `any_lies` does, for a block of 128 codes.
 #[inline(always)]
 fn any_of_many_lies(codes: &[u16], low: u16, last: u16) -> bool
     requires block { length codes.now ≡ 128 }
@@ -112,7 +113,7 @@ fn may_hit(codes: &[u16], window: Window) -> bool
     window.some_unknown && any_lies(codes, window.beyond, window.beyond)
 }
 
-/// Does what `may_hit` does for 128 codes.
+/// Does what `may_hit` does, for a block of 128 codes.
 #[inline(always)]
 fn many_may_hit(codes: &[u16], window: Window) -> bool
     requires block { length codes.now ≡ 128 }
@@ -162,7 +163,8 @@ pub(crate) fn is_hit(
     range.contains(tags.memory(spot).key_of(tags.handle(spot), arena))
 }
 
-/// The first spot in `from..to` whose row has its key in the range. Looks at the code of each spot.
+/// The first spot in `from..to` whose row has its key in the range, if there is one. Looks at the code of each
+/// spot.
 fn hit_between(
     tags: &TagList,
     stands: &[bool],
@@ -192,8 +194,8 @@ fn hit_between(
     None
 }
 
-/// The first spot of the block at `from` whose row has its key in the range. Looks at each spot only if the codes
-/// don't rule out the whole block.
+/// The first spot of the block at `from` whose row has its key in the range, if there is one. Looks at each spot
+/// only if the codes don't rule out the whole block.
 fn hit_in_block(
     tags: &TagList,
     stands: &[bool],
@@ -229,7 +231,7 @@ fn hit_in_block(
     )
 }
 
-/// The first spot in `from..to` whose row has its key in the range. Passes over blocks of codes.
+/// The first spot in `from..to` whose row has its key in the range, if there is one. Passes over blocks of codes.
 fn hit_in_blocks(
     tags: &TagList,
     stands: &[bool],
@@ -262,7 +264,8 @@ fn hit_in_blocks(
     hit_between(tags, stands, codes, spot, to, range, window, arena)
 }
 
-/// The first spot at or after `from`, of those that have a code, whose row has its key in a range that isn't empty.
+/// The first spot at or after `from` that has a code and whose row has its key in the range, if there is one. The
+/// range isn't empty.
 pub(crate) fn hit_in_codes(
     tags: &TagList,
     stands: &[bool],

@@ -33,7 +33,7 @@ struct Scale {
 }
 
 impl Scale {
-    /// The code of a key.
+    /// The code of a key, by this rule.
     fn code(self, key: StoredKey) -> u16
         requires { self.shift < 64 }
         ensures { result ≡ key_code self.base self.shift key }
@@ -113,7 +113,7 @@ impl Codes {
         self.ahead.give_back();
     }
 
-    /// Replaces the code of a removed row by that of a hole.
+    /// Replaces the code at the spot of a removed row, if it has one, by that of a hole.
     pub(crate) fn leave_hole(&mut self, spot: usize)
         ensures { self.new ≡ record self.old { codes = slice_set self.old.codes spot 65535 } }
     {
@@ -122,7 +122,7 @@ impl Codes {
         }
     }
 
-    /// Codes the row at the spot anew, since its key has changed.
+    /// Replaces the code at the spot, if it has one, because its row's key has changed to this one.
     pub(crate) fn recode(&mut self, spot: usize, key: StoredKey)
         ensures { self.new ≡ record self.old {
           codes = slice_set self.old.codes spot (key_code self.old.base
@@ -136,8 +136,8 @@ impl Codes {
     }
 
     /// The first spot at or after `start` whose code is `first` to `last`, or the spot where the search ended
-    /// without one. Searches in order pass over the codes once and look ahead; without memory they don't look
-    /// ahead.
+    /// without one: the end of the codes, or an earlier one if no memory is found to look ahead. Searches from
+    /// rising spots take one pass over the codes in total.
     pub(crate) fn seek(&mut self, first: u16, last: u16, start: usize) -> usize
         requires order { first ≤ last }
         requires low { last < 65535 }
@@ -148,14 +148,15 @@ impl Codes {
         self.ahead.seek(&self.codes, first, last, start)
     }
 
-    /// Reads the cells of the rows that were found ahead.
+    /// Reads the cells of the rows that were found ahead, so that they are in the cache. Contracts see no change.
     pub(crate) fn warm(&mut self, tags: &TagList, arena: &Arena<Row>)
         ensures { self.new ≡ self.old }
     {
         self.ahead.warm(tags, arena);
     }
 
-    /// Does what `catch_up` does if many spots have no code; otherwise does nothing. Amortised O(1) for each spot.
+    /// Codes the rows at all spots that have no code, if they are more than `MOST_UNCODED`; otherwise does
+    /// nothing. Codes none if no memory is found. Amortised O(1) for each spot.
     #[inline]
     pub(crate) fn catch_up_if_many(&mut self, tags: &TagList, stands: &[bool])
         requires beside { length stands.now ≡ length tags.now.remembered }

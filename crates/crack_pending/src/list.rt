@@ -113,7 +113,8 @@ impl<Kind> PendingList<Kind> {
         let _ = &self.tags;
     }
 
-    /// Appends the handle, whose row is unknown. There must be room. Takes no memory. O(1).
+    /// Appends the handle, whose row is unknown. There must be room for it and its cell, and the list must have no
+    /// handle of the cell. Takes no memory. O(1).
     pub fn push(&mut self, handle: Handle<Row>)
         requires room { 0 < self.old.room }
         requires covered { handle.slot < self.old.covered }
@@ -128,7 +129,8 @@ impl<Kind> PendingList<Kind> {
         self.push_remembered(handle, Remembered::nothing());
     }
 
-    /// Appends the handle, with what is remembered of its row. There must be room. Takes no memory. O(1).
+    /// Appends the handle, with what is remembered of its row. There must be room for it and its cell, and the
+    /// list must have no handle of the cell. Takes no memory. O(1).
     #[inline(always)]
     pub fn push_remembered(&mut self, handle: Handle<Row>, remembered: Remembered)
         requires room { 0 < self.old.room }
@@ -163,8 +165,8 @@ impl<Kind> PendingList<Kind> {
         ))
     }
 
-    /// Makes the next look-up of a place start from this place. So taking k of i rows at rising places takes O(i +
-    /// k) in total. Contracts see no change.
+    /// Makes the next look-up of a place start from this place (the hint). So taking k of i rows at rising places
+    /// takes O(i + k) in total. Contracts see no change.
     pub fn seek(&mut self, place: usize)
         requires { place < length self.old.handles }
         ensures { self.new ≡ self.old }
@@ -179,8 +181,8 @@ impl<Kind> PendingList<Kind> {
         self.hint_place = place;
     }
 
-    /// Replaces what is remembered of the row whose handle names this handle's cell. O(1), and O(1) for each spot
-    /// that isn't noted yet.
+    /// Replaces what is remembered of the row whose handle in the list names the same cell as this handle. There
+    /// must be one. O(1), and O(1) for each spot that isn't noted yet.
     pub fn remember(&mut self, handle: Handle<Row>, remembered: Remembered)
         requires { 0 < times handle.slot (slots self.old.handles) }
         ensures after { self.new ≡ record self.old {

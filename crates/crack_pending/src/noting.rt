@@ -1,4 +1,5 @@
-//! The spots of cells' handles, which are noted when a row's spot is first needed, and not at each push.
+//! The spots of cells' handles, which are noted when a row's spot is first needed, and not at each push. A spot is
+//! an index into a list's vectors; `stands` says which spots have a row.
 ghost use Rattle.std.specs.Prelude.{◌≡◌, ◌≤◌, ◌^◌, length, vec_len, MatchOption};
 ghost use Rattle.crack_pending.specs.Keeps.{LeadBack, StandApart, AreCovered};
 ghost use Rattle.crack_pending.specs.Inside.{IsNowhere, IsNotBehind, IsSpotWith, IsUnnoted};
@@ -24,7 +25,8 @@ fn note_spots(spots: &mut Vec<u32>, tags: &TagList, stands: &[bool], noted: usiz
     }
 }
 
-/// The noted spot of the row whose handle names the cell with this number, or `None` if there is no such row there.
+/// The noted spot of the row whose handle names the cell with this number. `None` if no spot is noted for the
+/// cell, or that spot doesn't have its row. O(1).
 fn spot_with(tags: &TagList, stands: &[bool], spots: &[u32], slot: u32) -> Option<usize>
     requires beside { length stands.now ≡ length tags.now.handles }
     ensures { MatchOption result (IsUnnoted tags.now.handles stands.now spots.now slot) (λ spot. IsSpotWith
@@ -41,8 +43,8 @@ fn spot_with(tags: &TagList, stands: &[bool], spots: &[u32], slot: u32) -> Optio
     }
 }
 
-/// The spot of the row whose handle names the cell with this number. First notes the spots that aren't noted, so n
-/// rows struck after m pushes take O(n + m) in total.
+/// The spot of the row whose handle names the cell with this number, or `None` if there is none. First notes the
+/// spots that aren't noted, so n look-ups after m pushes take O(n + m) in total.
 pub(crate) fn spot_noted(
     spots: &mut Vec<u32>,
     noted: &mut usize,
@@ -67,8 +69,8 @@ pub(crate) fn spot_noted(
     spot_with(tags, stands, spots, slot)
 }
 
-/// The spot, at or after `from`, of the row whose handle names the cell with this number. O(1) for each spot from
-/// `from` on.
+/// The spot, at or after `from`, of the row whose handle names the cell with this number, or `None` if there is
+/// none. O(1) for each spot from `from` on.
 fn spot_behind(tags: &TagList, stands: &[bool], from: usize, slot: u32) -> Option<usize>
     requires beside { length stands.now ≡ length tags.now.handles }
     ensures { MatchOption result (IsNotBehind tags.now.handles stands.now slot from) (λ spot. IsSpotWith
@@ -82,8 +84,8 @@ fn spot_behind(tags: &TagList, stands: &[bool], from: usize, slot: u32) -> Optio
     None
 }
 
-/// The spot of the row whose handle names the cell with this number, if the first `noted` spots are noted. O(1) for
-/// each spot that isn't.
+/// The spot of the row whose handle names the cell with this number, or `None` if there is none. The first `noted`
+/// spots are noted, and the others are searched: O(1) for each of these.
 pub(crate) fn spot_sought(
     tags: &TagList,
     stands: &[bool],

@@ -1,4 +1,5 @@
-//! Passes over the keys of pending rows.
+//! Passes over the keys of pending rows. A spot is an index into a list's vectors; `stands` says which spots have
+//! a row. The others are holes.
 ghost use Rattle.std.specs.Prelude.{◌≡◌, ◌≢◌, ◌+◌, ◌^◌, ◌<◌, ◌≤◌, ℕ, length, slice_index_or, MatchOption, IsTrue};
 ghost use Rattle.std.specs.Prelude.{IsFalse};
 ghost use Rattle.std.specs.Bool.{OnFalse};
@@ -71,7 +72,7 @@ fn may_hit(tags: &TagList, from: usize, wanted: Wanted) -> bool
     wanted.some_unknown && any_unknown(tags, from)
 }
 
-/// The first spot in `from..to` whose row has its key in the range. Looks at each spot.
+/// The first spot in `from..to` whose row has its key in the range, if there is one. Looks at each spot.
 fn hit_between(
     tags: &TagList,
     stands: &[bool],
@@ -96,8 +97,8 @@ fn hit_between(
     None
 }
 
-/// The first spot of the block at `from` whose row has its key in the range. Looks at each spot only if the
-/// remembered keys don't rule out the whole block.
+/// The first spot of the block at `from` whose row has its key in the range, if there is one. Looks at each spot
+/// only if the remembered keys don't rule out the whole block.
 fn hit_in_block(
     tags: &TagList,
     stands: &[bool],
@@ -125,7 +126,8 @@ fn hit_in_block(
     hit_between(tags, stands, from, from + BLOCK, range, arena)
 }
 
-/// The first spot at or after `from` whose row has its key in a range that isn't empty.
+/// The first spot at or after `from` whose row has its key in the range, if there is one. The range isn't empty.
+/// Passes over blocks of keys.
 fn hit_in_blocks(
     tags: &TagList,
     stands: &[bool],
@@ -157,8 +159,8 @@ fn hit_in_blocks(
     hit_between(tags, stands, spot, tags.len(), range, arena)
 }
 
-/// The first spot at or after `from` whose row has its key in the range. Reads codes at the spots that have one,
-/// and keys at the others. Tests keys for being unknown only if `some_unknown`.
+/// The first spot at or after `from` whose row has its key in the range, or `None` if there is none. Reads codes
+/// at the spots that have one, and keys at the others. Tests keys for being unknown only if `some_unknown`.
 pub(crate) fn first_hit(
     tags: &TagList,
     stands: &[bool],
@@ -198,8 +200,8 @@ pub(crate) fn first_hit(
     }
 }
 
-/// Does what `first_hit` does, but looks ahead in the codes if all keys are known. So hits that are searched for
-/// one after another take one pass.
+/// The first spot at or after `from` whose row has its key in the range, or `None` if there is none. Unlike
+/// `first_hit`, looks ahead in the codes if all keys are known, so that searches one after another take one pass.
 pub(crate) fn next_hit(
     tags: &TagList,
     stands: &[bool],

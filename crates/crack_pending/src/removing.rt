@@ -18,8 +18,8 @@ use crack_row::{KeyRange, Row};
 use crack_tags::TagList;
 
 impl<Kind> PendingList<Kind> {
-    /// Removes the handle at the place, and returns it. Takes no memory, and keeps the room. Taking k of i rows at
-    /// rising places takes O(i + k) in total, and taking the first row amortised O(1).
+    /// Removes the handle at the place, which must exist, and returns it. Takes no memory, and keeps the room.
+    /// Taking k of i rows at rising places takes O(i + k) in total, and taking the first row amortised O(1).
     pub fn take(&mut self, place: usize) -> Handle<Row>
         requires { place < length self.old.handles }
         ensures value { StandsAt self.old.handles place result }
@@ -48,8 +48,8 @@ impl<Kind> PendingList<Kind> {
         handle
     }
 
-    /// Removes the handle of the cell that this handle names, wherever it is. Takes no memory, and keeps the room.
-    /// Amortised O(1), however many rows there are.
+    /// Removes the handle of the cell that this handle names, which must be in the list, wherever it is. Takes no
+    /// memory, and keeps the room. Amortised O(1), however many rows there are.
     pub fn strike(&mut self, handle: Handle<Row>)
         requires { 0 < times handle.slot (slots self.old.handles) }
         ensures handles { self.new.handles ≡ remove self.old.handles (place_in self.old.handles handle.slot) }
@@ -166,7 +166,7 @@ impl<Kind> PendingList<Kind> {
     }
 }
 
-/// Removes from the set the cells of the handles at places from `from` on. O(1) for each.
+/// Removes from the set the cells of the handles at the places from `from` on. O(1) for each.
 fn strike_from(members: &mut BitSet, handles: &[Handle<Row>], from: usize)
     requires { (slot : ℕ) → 0 < times slot (slots (drop from handles.now)) → Has members.old slot }
     ensures struck { (slot : ℕ) → Has members.new slot ↔ (Has members.old slot ×

@@ -49,7 +49,8 @@ impl<Kind> PendingList<Kind> {
     }
 
     /// Closes up all holes, and then makes room for half as many rows as there are, and at least for `additional`
-    /// and `FIRST_SPOTS`. So n pushes take O(n), however many rows are removed between them.
+    /// and `FIRST_SPOTS`. So n pushes take O(n), however many rows are removed between them. Refused with
+    /// `OutOfMemory` if no memory is found.
     #[inline(never)]
     fn make_room(&mut self, additional: usize) -> Result<(), Refusal>
         requires { length self.old.handles + additional ≤ 2 ^ 32 }
@@ -149,7 +150,8 @@ impl<Kind> PendingList<Kind> {
     }
 }
 
-/// Makes room for this many more spots.
+/// Makes room for this many more spots. Refused with `OutOfMemory` if no memory is found; some vectors may then
+/// have room.
 fn grow(tags: &mut TagList, stands: &mut Vec<bool>, additional: usize) -> Result<(), Refusal>
     ensures handles { tags.new.handles ≡ tags.old.handles }
     ensures remembered { tags.new.remembered ≡ tags.old.remembered }

@@ -12,7 +12,7 @@ use crack_tags::TagList;
 /// The number of spots counted at a time, in 8 bits.
 const BLOCK: usize = 64;
 
-/// The number of rows at a few spots.
+/// The number of rows at fewer than 256 spots.
 fn rows_in_block(stands: &[bool]) -> u8
     requires { length stands.now < 256 }
     ensures { result ≡ place_at stands.now (length stands.now) }
@@ -108,8 +108,8 @@ pub(crate) fn spot_of(
     }
 }
 
-/// A spot with `place` rows before it: the given spot or the one after it if that has so many, otherwise the spot
-/// of the row at the place.
+/// A spot with `place` rows before it: the spot `from`, which has `before` rows before it, or the one after it, if
+/// that fits, otherwise the spot of the row at the place.
 pub(crate) fn spot_before(
     stands: &[bool],
     rows: usize,
@@ -133,7 +133,8 @@ pub(crate) fn spot_before(
     from
 }
 
-/// The place of the row at the spot.
+/// The place of the row at the spot, in a list of `rows` rows. O(1) if there are no holes, otherwise
+/// O(spots before it).
 pub(crate) fn place_of_spot(stands: &[bool], rows: usize, spot: usize) -> usize
     requires rows { rows ≡ place_at stands.now (length stands.now) }
     requires within { spot ≤ length stands.now }
@@ -146,7 +147,8 @@ pub(crate) fn place_of_spot(stands: &[bool], rows: usize, spot: usize) -> usize
     }
 }
 
-/// The number of rows before the hint, after the row at the spot is removed.
+/// The number of rows before the spot `hint_spot`, after the row at `spot` is removed. Until then it is
+/// `hint_place`.
 pub(crate) fn hint_without(
     stands: &[bool],
     hint_place: usize,
@@ -164,7 +166,8 @@ pub(crate) fn hint_without(
     }
 }
 
-/// The number of unknown rows, after the row at the spot is removed. If no row is unknown, no key is read.
+/// The number of unknown rows, after the row at the spot is removed. Until then it is `unknowns`. If that is 0, no
+/// key is read.
 pub(crate) fn unknowns_without(tags: &TagList, unknowns: usize, spot: usize) -> usize
     requires within { spot < length tags.now.handles }
     requires counted { (slice_index_or tags.now.remembered spot nothing).key ≡ unknown → 0 < unknowns }

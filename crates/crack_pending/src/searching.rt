@@ -13,7 +13,8 @@ use crack_arena::{Arena, Handle};
 use crack_row::{KeyRange, Row};
 
 impl<Kind> PendingList<Kind> {
-    /// The first place whose row has its key in the range. O(len), without a branch for each key.
+    /// The first place whose row has its key in the range, or `None` if there is none. O(len), without a branch
+    /// for each key.
     pub fn first_in(&self, range: KeyRange, arena: &Arena<Row>) -> Option<usize>
         requires { Remembers arena.now.cells self.now.handles self.now.remembered }
         ensures { Finds range (keys_at arena.now.cells self.now.handles) 0 result }
@@ -21,9 +22,10 @@ impl<Kind> PendingList<Kind> {
         self.next_in(range, 0, arena)
     }
 
-    /// The first place at or after `from` whose row has its key in the range. O(1) for each place that it passes,
-    /// without a branch for each key. Looks at a handle only if a key may lie in the range, or isn't remembered. A
-    /// command that takes rows continues where it took the last one, and so passes over the list once.
+    /// The first place at or after `from` whose row has its key in the range, or `None` if there is none. O(1) for
+    /// each place that it passes, without a branch for each key. Looks at a handle only if a key may lie in the
+    /// range, or isn't remembered. A command that takes rows continues where it took the last one, and so passes
+    /// over the list once.
     pub fn next_in(&self, range: KeyRange, from: usize, arena: &Arena<Row>) -> Option<usize>
         requires { Remembers arena.now.cells self.now.handles self.now.remembered }
         ensures { Finds range (keys_at arena.now.cells self.now.handles) from result }
@@ -91,9 +93,9 @@ impl<Kind> PendingList<Kind> {
         }
     }
 
-    /// Makes the missing codes of keys if many are missing, so that later passes read 16 bits for each key.
-    /// Amortised O(1) for each push. Can't fail: without memory for codes, passes read keys. Contracts see no
-    /// change.
+    /// Makes the missing 16-bit codes of keys if many are missing, so that later passes read codes instead of
+    /// keys. Amortised O(1) for each push. Can't fail: without memory for codes, passes read keys. Contracts see
+    /// no change.
     #[inline]
     pub fn code_keys(&mut self)
         ensures { self.new ≡ self.old }

@@ -30,7 +30,8 @@ pub(crate) struct Left {
 }
 
 /// Leaves a hole at the spot of each row in a range, and appends the handles to `taken`, and what is remembered of
-/// them to `known`, in order. One pass: no row's place is looked up.
+/// their rows to `known`, in order; both must have room. `unknowns` is the number of rows whose keys are unknown.
+/// One pass: no row's place is looked up.
 pub(crate) fn take_hits(
     tags: &TagList,
     stands: &mut Vec<bool>,
@@ -201,8 +202,8 @@ fn take_blocks(
     (spot, count)
 }
 
-/// Takes the candidates that are rows in a range, which include all its rows at the spots `from..to`. Returns how
-/// many rows it took.
+/// Takes those candidates whose rows are in the range. The candidates include all its rows at the spots
+/// `from..to`. Returns how many rows it took.
 fn take_candidates(
     tags: &TagList,
     stands: &mut Vec<bool>,

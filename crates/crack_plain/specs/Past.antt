@@ -17,8 +17,8 @@ pub record Base : Type 0 where
   pub placed : ℕ
   pub gone : ℕ
 
--- a possible base: its next serial is the number of rows inserted, and its rows are the inserted ones minus the
--- deleted ones
+-- a possible base: its next serial is the number of rows inserted, it has as many rows as were inserted less those
+-- deleted, and there were at least as many commands as insertions and deletions
 pub record IsBase (base : Base) : Type 0 where
   pub numbered : IsNumbered base.state
   pub serial : base.state.next ≡ base.placed
@@ -62,7 +62,7 @@ deleted_in past = past.base.gone + deleted past.tail
 abbrev pub base_after : Past → Base
 base_after past = record { state = state_after past; folded = accepted_in past; placed = inserted_in past; gone = deleted_in past }
 
--- the past after a checkpoint: its history is merged into its base
+-- the past after a checkpoint: its history is merged into its base, and is then empty
 abbrev pub folded : Past → Past
 folded past = record { base = base_after past; tail = [] }
 

@@ -31,7 +31,7 @@ pub record IsNumbered (s : PlainState) : Type 0 where
   pub rising : AllPairs (λ (earlier later : Row). earlier.serial.0 < later.serial.0) s.rows
   pub below : All (λ (row : Row). row.serial.0 < s.next) s.rows
 
--- inserts a row into rows that are in order of their serials
+-- the rows, which are in order of their serials, with one more row at its place
 abbrev pub put_by_serial : Row → List Row → List Row
 put_by_serial row [] = row ∷ []
 put_by_serial row (r ∷ rows) = if nat_lt row.serial.0 r.serial.0 then row ∷ r ∷ rows else r ∷ put_by_serial row rows
@@ -58,7 +58,8 @@ reply_to s (Count range) = Counted (count_by (in_range range) s.rows)
 reply_to s (Sum range) = Summed (sum_of (rows_in range s.rows))
 reply_to s (Select range) = Rows (rows_in range s.rows)
 
--- a count is below 2^32, a sum is between -2^96 and 2^96, and a list has fewer than 2^32 rows
+-- the reply is small: a count below 2^32, a sum between -2^96 and 2^96, a list of fewer than 2^32 rows, or any
+-- other reply
 abbrev pub IsSmall : Reply → Type 0
 IsSmall (Counted count) = count < 2 ^ 32
 IsSmall (Summed sum) = (neg_ℤ (pos (2 ^ 96)) <ℤ sum) × (sum <ℤ pos (2 ^ 96))

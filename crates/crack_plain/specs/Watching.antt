@@ -24,7 +24,7 @@ together s t = record {
   commands_since_checkpoint = capped_sum s.commands_since_checkpoint t.commands_since_checkpoint;
 }
 
--- the numbers that a partition's plain rows and counts of commands determine; the other numbers depend on its
+-- the statistics agree with a partition's plain rows and counts of commands; their other numbers depend on its
 -- column
 pub record AreNumbersOf (table : PlainView) (s : Statistics) : Type 0 where
   pub rows : s.rows ≡ length table.state.rows

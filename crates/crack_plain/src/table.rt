@@ -128,7 +128,8 @@ impl PlainTable {
     }
 
     /// Answers one command. An insert takes O(1), any other command O(rows). Refused with `HistoryFull` once
-    /// `MOST_ACCEPTED` commands were accepted, and with `OutOfMemory` if an insert or a select finds no memory.
+    /// `MOST_ACCEPTED` commands were accepted, and with `OutOfMemory` if an insert or a select finds no memory. A
+    /// refusal changes nothing.
     pub fn apply(&mut self, command: &Command) -> Result<Reply, Refusal>
         ensures reply { IfOk result (λ reply. reply ≡ (answer self.old.state command.now).0) }
         ensures small { IfOk result IsSmall }
@@ -178,8 +179,8 @@ impl PlainTable {
     }
 }
 
-/// Makes a change to the rows, if there is one: O(1) for an insertion, otherwise O(rows). Refused with
-/// `OutOfMemory` if an insertion finds no memory.
+/// Makes a change to the rows, if there is one: O(1) for an insertion, otherwise O(rows). An inserted row gets the
+/// serial `next`, which then rises by one. Refused with `OutOfMemory` if an insertion finds no memory.
 fn change_rows(rows: &mut Vec<Row>, next: &mut u64, change: Option<Change>) -> Result<(), Refusal>
     requires small { next.old + 1 < 2 ^ 64 }
     ensures changed { OnOk result (let old : PlainState = record { rows = rows.old.items; next = next.old } in

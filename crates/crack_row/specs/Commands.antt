@@ -21,12 +21,12 @@ range_of (Sum range) = Some range
 range_of (Select range) = Some range
 range_of _ = None
 
--- the key in a change, if any
+-- the key that a change gives a row; none if it deletes one
 abbrev pub brought_key : Change → Option Key
 brought_key (Place key payload) = Some key
 brought_key (Remove serial) = None
 brought_key (Rewrite serial key payload) = Some key
 
--- the key in a command, if any
+-- the new key of the row, in an insert or an update; none in any other command
 abbrev pub key_of : Command → Option Key
 key_of command = option_and_then brought_key (change_of command)

@@ -8,7 +8,7 @@ use Rattle.crack_row.specs.declared.TheConstants.{GREATEST_BOUND}
 abbrev pub past_all : ℕ → Bool
 past_all end = nat_le GREATEST_BOUND end
 
--- the number that is stored for an end
+-- the number that is stored for an end: 0 for the end above all keys
 abbrev pub end_number : ℕ → ℕ
 end_number end = cond (past_all end) 0 end
 

@@ -29,7 +29,7 @@ amount payload = payload.0
 abbrev pub farthest_amount : ℕ
 farthest_amount = 2 ^ 63
 
--- the sum of the numbers of a list's elements
+-- the sum of the numbers that the function `number` gives the elements of a list
 abbrev pub total_by : {X : Type 0} → (X → ℤ) → List X → ℤ
 total_by number xs = fold (λ total x. total +ℤ number x) (pos 0) xs
 

@@ -83,7 +83,7 @@ impl Command {
         }
     }
 
-    /// The key in the command, if any.
+    /// The new key of the row, in an insert or an update; `None` in any other command.
     pub fn key(&self) -> Option<Key>
         ensures { result ≡ key_of self.now }
     {
@@ -101,11 +101,11 @@ pub enum Policy {
     Complete,
     /// Only those whose key is in the range.
     Gradual,
-    /// Only those whose key is in the range, with room made near it: a row that is in the way after the range is
-    /// evicted, and becomes a pending insertion again.
+    /// Only those whose key is in the range. Room for them is made near the range: a row that is in the way just
+    /// above it is evicted, and becomes a pending insertion again.
     Ripple,
-    /// `Complete` if many insertions are pending compared with the rows of the column, otherwise `Ripple`; chosen
-    /// for each range command.
+    /// As `Ripple`; but first all of them, wherever they lie, if many insertions are pending compared with the
+    /// column's rows and pieces.
     Auto,
 }
 

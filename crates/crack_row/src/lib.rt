@@ -40,7 +40,7 @@ pub const GREATEST_CELLS: u64 = 16777215;
 /// The greatest limit on the number of commands that a partition accepts in total.
 pub const GREATEST_LIFE: u64 = 1099511627776;
 
-/// A row's key, by which it is looked up: 0 to `GREATEST_KEY`.
+/// A row's key, by which ranges select rows: 0 to `GREATEST_KEY`.
 #[derive(Clone, Copy, PartialEq, Eq, Debug)]
 pub struct Key(KeyNumber);
 
@@ -48,7 +48,8 @@ pub struct Key(KeyNumber);
 #[derive(Clone, Copy, PartialEq, Eq, Debug)]
 pub struct Payload(PayloadNumber);
 
-/// The number of insertions that the partition accepted before the row's own. It is never reused.
+/// Identifies a row within its partition: the number of insertions that the partition accepted before the row's
+/// own. It is never reused.
 #[derive(Clone, Copy, PartialEq, Eq, Debug)]
 pub struct Serial(pub u64);
 

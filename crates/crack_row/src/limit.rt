@@ -9,7 +9,8 @@ use crate::{GREATEST_CELLS, GREATEST_LIFE, GREATEST_LIMIT};
 pub enum Upkeep {
     /// It refuses the command. Checkpoints are made only on request.
     OnRequest,
-    /// If its history is full, it makes a checkpoint and then answers the command.
+    /// It first makes a checkpoint if its history is full, and merges all pending rows if a cell is missing and
+    /// deletions are pending; then it goes on with the command.
     Automatic,
 }
 

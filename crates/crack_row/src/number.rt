@@ -31,7 +31,7 @@ impl Key {
         self.0
     }
 
-    /// The greatest bound that isn't above the key.
+    /// The bound at the key: the greatest one that isn't above it.
     #[inline]
     pub fn bound(self) -> Bound
         ensures { result.0 ≡ self.0 }
@@ -93,7 +93,7 @@ impl Bound {
         (key.0 as BoundNumber) < self.0
     }
 
-    /// The least key that isn't below the bound, if there is one.
+    /// The least key that isn't below the bound, or `None` if all keys are.
     #[inline]
     pub fn least_key(self) -> Option<Key>
         ensures { MatchOption result (GREATEST_KEY < self.0) (λ key. key.0 ≡ self.0) }
@@ -104,7 +104,7 @@ impl Bound {
         Some(Key(self.0 as KeyNumber))
     }
 
-    /// The bound as an inner bound, if it lies between two keys.
+    /// The bound as an inner bound, or `None` if it doesn't lie between two keys.
     #[inline]
     pub fn inner(self) -> Option<InnerBound>
         ensures value { IfSome result (λ inner. inner.0 ≡ self.0) }
@@ -118,7 +118,7 @@ impl Bound {
 }
 
 impl InnerBound {
-    /// The least bound between two keys.
+    /// The least inner bound, 1: only the key 0 is below it.
     pub fn least() -> InnerBound
         ensures { result.0 ≡ 1 }
     {

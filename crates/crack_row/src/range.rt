@@ -134,7 +134,7 @@ impl KeyRange {
         }
     }
 
-    /// The range between two bounds.
+    /// The range between two bounds that are in order and at most `GREATEST_BOUND`.
     fn of(low: Bound, high: Bound) -> KeyRange
         requires ordered { low.0 ≤ high.0 }
         requires bounded { high.0 ≤ GREATEST_BOUND }
@@ -218,7 +218,7 @@ impl End {
         }
     }
 
-    /// The number of the greatest key below the end.
+    /// The number of the greatest key below the end, which isn't 0.
     #[inline]
     fn number_below(self) -> KeyNumber
         requires { 0 < self }

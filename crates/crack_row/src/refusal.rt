@@ -21,10 +21,10 @@ pub enum Refusal {
     /// There is no partition with this number.
     #[error("refused 5")]
     NoSuchPartition,
-    /// The history has as many entries as its limit.
+    /// The history has `length` entries, as many as its limit.
     #[error("refused 6 {length}")]
     HistoryFull { length: u64 },
-    /// A gate, code of a program that is called before each command of a worker, refused it each time.
+    /// The gate, code of a program that is asked before each command of a worker, refused this command each time.
     #[error("refused 7")]
     GateGaveUp,
     /// An allocation was refused, or a thread couldn't be started.
@@ -51,7 +51,9 @@ pub enum Refusal {
     /// Workers of the table are missing from a gathering: `missing` has a bit for each missing number.
     #[error("refused 15{}", Numbers(*missing))]
     WorkersMissing { missing: u64 },
-    /// Receipts and histories don't match at this position, or a partition isn't the table's.
+    /// Receipts don't cover a partition's entries, a worker's number of replies differs from a partition's, or a
+    /// partition or a worker isn't the table's. `position` is that of an entry or a receipt, that number of replies,
+    /// or 0.
     #[error("refused 16 {part} {position}")]
     StrangeReceipt { part: u32, position: u64 },
     /// The reader failed or exceeded its stated bound, or the port isn't available.

@@ -27,11 +27,11 @@ module _ {S : Type 0} where
     pub same : map_lists after ≡ map_lists maps
     pub room : (n : ℕ) → slice_index_or (rooms_of maps) n 0 ≤ slice_index_or (rooms_of after) n 0
 
-  -- so many maps, all empty and with room for 32 entries
+  -- there are `count` maps, all empty, and each has room for 32 entries
   pub record AreMade (count : ℕ) (maps : List (IndexMap ℕ Handle S)) : Type 0 where
     pub empty : map_lists maps ≡ replicate count []
     pub room : (n : ℕ) → n < count → 32 ≤ slice_index_or (rooms_of maps) n 0
 
--- the first maps have room for their shares of consecutive serials
+-- each of the first `maps` maps has room for its share of `count` consecutive serials, from `first` on
 abbrev pub HaveShares : ℕ → ℕ → ℕ → List ℕ → Type 0
 HaveShares maps first count rooms = (n : ℕ) → n < maps → shares n first count ≤ slice_index_or rooms n 0

@@ -10,7 +10,7 @@ pub record Serials : Type 0 where
   pub entries : List (ℕ × Handle)
   pub room : List ℕ
 
--- the number of the map that a serial is in: 32 neighbouring serials share one, and the 64 maps take turns
+-- the number of the map to which a serial belongs: 32 neighbouring serials share one, and the 64 maps take turns
 abbrev pub map_of : ℕ → ℕ
 map_of serial = serial / 32 % 64
 
@@ -18,15 +18,16 @@ map_of serial = serial / 32 % 64
 abbrev pub handle_of : List (ℕ × Handle) → ℕ → Option Handle
 handle_of entries serial = lookup (nat_eq serial) entries
 
--- the second map has this handle, or none, for the serial, and agrees with the first map on all other serials
+-- the entries `after` have this handle, or none, for the serial, and the same handle as `entries` for every other
+-- serial
 abbrev pub Maps : ℕ → Option Handle → List (ℕ × Handle) → List (ℕ × Handle) → Type 0
 Maps serial o entries after = (n : ℕ) → handle_of after n ≡ (if nat_eq serial n then o else handle_of entries n)
 
--- the entries of the map that a serial is in
+-- the entries of the map to which a serial belongs
 abbrev pub sharing : ℕ → List (ℕ × Handle) → List (ℕ × Handle)
 sharing serial entries = filter (λ (e : ℕ × Handle). nat_eq (map_of e.0) (map_of serial)) entries
 
--- the entries with one more, which is the last of its map
+-- the entries with one more, which becomes the last one of its map
 abbrev pub with_serial : ℕ → Handle → List (ℕ × Handle) → List (ℕ × Handle)
 with_serial serial h entries =
     filter (λ (e : ℕ × Handle). nat_le (map_of e.0) (map_of serial)) entries ++ (serial, h) ∷ filter (λ (e : ℕ × Handle). nat_lt (map_of serial) (map_of e.0)) entries
@@ -47,15 +48,15 @@ room_for s serial = room_in s (map_of serial)
 abbrev pub KeepsRoom : Serials → Serials → Type 0
 KeepsRoom s t = (map : ℕ) → room_in s map ≤ room_in t map
 
--- no map has less room than before, but for one entry in the map of a serial
+-- no map has less room than before, except that the map of this serial may have room for one entry less
 abbrev pub UsesRoom : ℕ → Serials → Serials → Type 0
 UsesRoom serial s t = (map : ℕ) → room_in s map ≤ room_in t map + (if nat_eq (map_of serial) map then 1 else 0)
 
--- how many of consecutive serials, from the first on, are in a map
+-- how many of `count` consecutive serials, from `first` on, belong to the map with this number
 abbrev pub shares : ℕ → ℕ → ℕ → ℕ
 shares map first zero = 0
 shares map first (suc count) = (if nat_eq (map_of first) map then 1 else 0) + shares map (suc first) count
 
--- each map has room for its share of consecutive serials
+-- each map has room for its share of `count` consecutive serials, from `first` on
 abbrev pub HasRoom : Serials → ℕ → ℕ → Type 0
 HasRoom s first count = (map : ℕ) → shares map first count ≤ room_in s map

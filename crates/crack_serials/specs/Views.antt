@@ -9,6 +9,6 @@ module _ {S : Type 0} where
   abbrev pub entries_in_maps : List (IndexMap ℕ Handle S) → List (ℕ × Handle)
   entries_in_maps maps = flat_map (λ (m : IndexMap ℕ Handle S). m.entries) maps
 
-  -- the room of each map
+  -- for how many more entries each map has room
   abbrev pub rooms_of : List (IndexMap ℕ Handle S) → List ℕ
   rooms_of maps = map (λ (m : IndexMap ℕ Handle S). spare m) maps

@@ -1,4 +1,4 @@
-//! A map from the serials of rows to their handles, of which no insertion pauses for long.
+//! A map from the serials of rows to their handles, in which no insertion takes long.
 //!
 //! A hash table that grows moves all its entries at once. So there are 64 maps of neighbouring serials, which grow
 //! one at a time.

@@ -34,7 +34,7 @@ impl BuildHasher for SerialHashing {
     }
 }
 
-/// Hashes the number of eight bytes that was written last.
+/// Hashes the 64-bit serial that was written last. A write of another length is ignored.
 #[derive(Clone, Copy)]
 pub struct SerialHasher {
     serial: u64,
@@ -49,6 +49,7 @@ impl Hasher for SerialHasher {
         ((place * 8 % 2 ^ 64 + bit_xor (number / 4) (place / 2 ^ 58) % 8) % 2 ^ 64
         + number * 16777216 % 2 ^ 64) % 2 ^ 64 % 4294967296 };
 
+    /// The hash of the serial that was written last, below 2^32.
     fn finish(&self) -> u64 {
         // The serials of a map are those of every 64th series, so here the series are numbered without the others.
         let series = self.serial / ROUND;

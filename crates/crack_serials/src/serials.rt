@@ -51,7 +51,7 @@ pub struct Lead {
 }
 
 impl Serials {
-    /// No serials. Takes no memory.
+    /// Makes a map without serials. Takes no memory.
     pub fn new(alloc: Global) -> Serials
         ensures entries { result.entries ≡ [] }
         ensures room { result.room ≡ [] }
@@ -85,7 +85,7 @@ impl Serials {
         map.get(&serial.0).copied()
     }
 
-    /// Looks up a serial. O(1).
+    /// Looks up a serial: its handle, and where its entry is. `None` if the serial isn't in its map. O(1).
     pub fn find(&self, serial: Serial) -> Option<Lead>
         ensures serial { IfSome result (λ lead. lead.serial ≡ serial) }
         ensures entry { IfSome result (λ lead. IsLead lead self.now.entries) }
@@ -100,7 +100,7 @@ impl Serials {
         })
     }
 
-    /// Looks up a serial that is in the map. O(1).
+    /// Looks up a serial that must be in its map. O(1).
     pub fn lead_of(&self, serial: Serial) -> Lead
         requires { IsSome (handle_of self.now.entries serial.0) }
         ensures serial { result.serial ≡ serial }
@@ -113,8 +113,8 @@ impl Serials {
         }
     }
 
-    /// Makes room for the insertion of a serial. O(1), except for the growth of its map. Refused with `OutOfMemory`
-    /// if no memory is found; then nothing has changed.
+    /// Makes room for the insertion of a serial. O(1), except for the growth of its map. Refused with
+    /// `OutOfMemory` if no memory is found; then no entry has changed.
     pub fn reserve(&mut self, serial: Serial) -> Result<(), Refusal>
         ensures entries { self.new.entries ≡ self.old.entries }
         ensures ok { OnOk result (0 < room_for self.new serial.0) }
@@ -142,7 +142,7 @@ impl Serials {
         reserve_shares(&mut self.maps, first, count)
     }
 
-    /// Makes the maps if there are none.
+    /// Makes the maps if there are none. Refused with `OutOfMemory` if no memory is found; then there are none.
     #[inline(always)]
     fn have_maps(&mut self) -> Result<(), Refusal>
         ensures entries { self.new.entries ≡ self.old.entries }
@@ -157,8 +157,8 @@ impl Serials {
         Ok(())
     }
 
-    /// Sets the handle of a serial, and returns the one before, if any. O(1), except for growth. Refused with
-    /// `OutOfMemory` if no memory is found; then nothing has changed.
+    /// Sets the handle of a serial, and returns its handle before, if any. O(1), except for growth. Refused with
+    /// `OutOfMemory` if no memory is found; then no entry has changed.
     pub fn insert(
         &mut self,
         serial: Serial,
@@ -179,8 +179,8 @@ impl Serials {
         Ok(self.insert_reserved(serial, handle))
     }
 
-    /// Sets the handle of a serial, for which there is room, and returns the one before, if any. Takes no memory.
-    /// O(1).
+    /// Sets the handle of a serial, for which there must be room in its map, and returns its handle before, if
+    /// any. Takes no memory. O(1).
     pub fn insert_reserved(&mut self, serial: Serial, handle: Handle<Row>) -> Option<Handle<Row>>
         requires { 0 < room_for self.old serial.0 }
         ensures old { result ≡ handle_of self.old.entries serial.0 }
@@ -197,7 +197,7 @@ impl Serials {
         }
     }
 
-    /// Removes a serial, and returns its handle, if any. Takes no memory. O(1).
+    /// Removes a serial, and returns the handle that it had, if any. Takes no memory. O(1).
     pub fn remove(&mut self, serial: Serial) -> Option<Handle<Row>>
         ensures handle { result ≡ handle_of self.old.entries serial.0 }
         ensures updates { Maps serial.0 None self.old.entries self.new.entries }
@@ -237,7 +237,7 @@ impl Serials {
     }
 }
 
-/// Makes the 64 maps. If one is refused, frees the others.
+/// Makes the 64 maps. Refused with `OutOfMemory` if no memory is found for all; then none is left.
 #[cold]
 #[inline(never)]
 fn make_maps(maps: &mut Vec<Map>) -> Result<(), Refusal>
@@ -260,7 +260,8 @@ fn make_maps(maps: &mut Vec<Map>) -> Result<(), Refusal>
     Ok(())
 }
 
-/// Makes room for this many more entries of a map. O(1), except for growth.
+/// Makes room for this many more entries in the map with this number. O(1), except for growth. Refused with
+/// `OutOfMemory` if no memory is found.
 #[inline(always)]
 fn reserve_in(maps: &mut Vec<Map>, number: usize, additional: usize) -> Result<(), Refusal>
     requires { number < length maps.old.items }
@@ -274,7 +275,8 @@ fn reserve_in(maps: &mut Vec<Map>, number: usize, additional: usize) -> Result<(
     Ok(())
 }
 
-/// Makes room in each map for its share of `count` consecutive serials, from `first` on.
+/// Makes room in each map for its share of `count` consecutive serials, from `first` on. Refused with
+/// `OutOfMemory` if no memory is found; some maps may then have room.
 fn reserve_shares(maps: &mut Vec<Map>, first: Serial, count: usize) -> Result<(), Refusal>
     requires { length maps.old.items ≡ 64 }
     ensures lists { KeepsLists maps.old.items maps.new.items }

@@ -8,13 +8,13 @@ use crack_row::Serial;
 /// The number of maps.
 pub(crate) const MAPS: usize = 64;
 
-/// How many neighbouring serials are in the same map.
+/// How many neighbouring serials belong to the same map.
 pub(crate) const NEIGHBOURS: u64 = 32;
 
 /// After this many serials the first map has its turn again.
 pub(crate) const ROUND: u64 = 2048;
 
-/// The number of the map that a serial is in.
+/// The number of the map to which a serial belongs. O(1).
 #[inline(always)]
 pub(crate) fn map_of(serial: Serial) -> usize
     ensures value { result ≡ map_of serial.0 }
@@ -23,7 +23,7 @@ pub(crate) fn map_of(serial: Serial) -> usize
     (serial.0 / NEIGHBOURS) as usize % MAPS
 }
 
-/// How many of `count` consecutive serials, from `first` on, are in a map. O(1).
+/// How many of `count` consecutive serials, from `first` on, belong to the map with this number. O(1).
 pub(crate) fn share(map: usize, first: Serial, count: usize) -> usize
     requires { map < 64 }
     ensures { result ≡ shares map first.0 count }
@@ -34,7 +34,7 @@ pub(crate) fn share(map: usize, first: Serial, count: usize) -> usize
     (rounds * NEIGHBOURS + serials_below(map, start + rest) - serials_below(map, start)) as usize
 }
 
-/// How many of the serials below `end` are in a map. O(1).
+/// How many of the serials below `end` belong to the map with this number. O(1).
 fn serials_below(map: usize, end: u64) -> u64
     requires { map < 64 }
     ensures { result ≡ below map end }

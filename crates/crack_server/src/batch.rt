@@ -61,8 +61,8 @@ pub fn run_batch<Rt: Threads + Wait + Sync, G: Gate + Sync, R: Read, W: Write>(
     run_named::<Rt, G, R, W, Brand>(rt, alloc, table, policy, gate, reader, writer)
 }
 
-/// Names the table's book `J`, opens the table, and answers the lines of an input over it. Refused as `run_batch` is,
-/// after the table's opening.
+/// Opens the table under the name `J`, which matters only to proofs, and answers the lines of an input over it.
+/// Refused as `run_batch` is, after the table's opening.
 fn run_named<Rt: Threads + Wait + Sync, G: Gate + Sync, R: Read, W: Write, J: Naming + Send + Sync>(
     rt: &Rt,
     alloc: Global,
@@ -121,8 +121,8 @@ fn desks_of<'a, Rt: Wait, G: Gate, J: Naming>(
     Ok(desks)
 }
 
-/// Serves each share of the lines as a session, at a desk and on a thread of its own. Refused with `OutOfMemory` if a
-/// thread can't be started, once the others have ended.
+/// Serves each share of the lines as a session, at a desk and on a thread of its own. Refused with `OutOfMemory`,
+/// once all threads have ended, if one couldn't be started or no memory is found.
 fn serve_all<Rt: Threads + Wait, D: Desk + Send + Drop>(
     rt: &Rt,
     alloc: Global,
@@ -148,7 +148,8 @@ fn serve_all<Rt: Threads + Wait, D: Desk + Send + Drop>(
     all.ok_or(Refusal::OutOfMemory)
 }
 
-/// Serves a worker's lines at its desk. The output is in memory, so the writer fails only if no memory is found.
+/// Serves a worker's lines at its desk. The output is in memory, so a write fails only if no memory is found, and
+/// then the fault is `OutOfMemory`.
 fn serve_share<D: Desk + Drop>(alloc: Global, desk: D, share: Vec<u8>, policy: Policy) -> Served<D>
     // If the session wasn't cut off, its output is the texts of the answers to all statements of its share, made of
     // exactly the calls that the statements require, under the policy then in force; the calls led the desk to its
@@ -174,8 +175,8 @@ fn serve_share<D: Desk + Drop>(alloc: Global, desk: D, share: Vec<u8>, policy: P
     }
 }
 
-/// The workers and their outputs. Refused as the first session that was cut off, and with `OutOfMemory` if no memory
-/// is found.
+/// The workers and their outputs. Refused as the first session, by worker number, that was cut off, and with
+/// `OutOfMemory` if no memory is found.
 fn crew_of<Rt: Wait, G: Gate, J: Naming>(
     alloc: Global,
     served: Vec<Served<WorkerDesk<'_, Rt, G, J>>>,
@@ -208,7 +209,8 @@ fn report<W: Write, J: Naming>(
     totals.write(writer)
 }
 
-/// Writes the output of each worker's session, after a line with the worker's number.
+/// Writes the output of each worker's session, after a line with the worker's number. Refused with `WriteFault` if
+/// the writer fails.
 fn write_outputs<W: Write>(outputs: &Vec<Vec<u8>>, writer: &mut W) -> Result<(), Refusal> {
     'workers: for (worker, output) in outputs.iter().enumerate() {
         let head = writeln!(writer, "worker {worker}");

@@ -27,7 +27,7 @@ impl<'a, G: Gate, H: Host> Reporting<'a, G, H> {
         }
     }
 
-    /// Whether a checkpoint of this many entries causes a notice.
+    /// Counts the entries of a checkpoint, and returns whether it causes a notice.
     fn is_notice_due(&self, entries: u64) -> bool {
         let left = self.entries_left.load(Ordering::SeqCst);
         let is_due = entries >= left;

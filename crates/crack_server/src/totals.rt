@@ -12,7 +12,7 @@ use crack_witness::{Naming, Worker};
 use std::alloc::Global;
 use std::io::Write;
 
-/// The totals of a table and its workers.
+/// The totals of a table and its workers: commands accepted, rows inserted, rows deleted, and rows held.
 #[derive(Clone, Copy, Drop)]
 pub(crate) struct Totals {
     accepted: u64,
@@ -41,7 +41,7 @@ pub(crate) fn totals_of<J: Naming>(
     Ok(totals)
 }
 
-/// Gathers the workers of a table, and drops what a refusal hands back.
+/// Gathers the workers of a table, and drops what a refusal hands back. Refused as `gather` is.
 fn gathered<J: Naming>(
     alloc: Global,
     table: Table<J>,
@@ -83,7 +83,8 @@ fn totals_in<J: Naming>(gathered: &Gathered<J>) -> Totals
 }
 
 impl Totals {
-    /// Writes the totals as the last line of a run, and flushes the output.
+    /// Writes the totals as the last line of a run, and flushes the output. Refused with `WriteFault` if the writer
+    /// fails.
     pub(crate) fn write<W: Write>(&self, writer: &mut W) -> Result<(), Refusal> {
         let Totals {
             accepted,

@@ -22,8 +22,8 @@ pub enum Notice {
     Listening {
         port: u16,
     },
-    /// Automatic checkpoints were made, since histories were full: how many since the last such notice, at least 1,
-    /// and the partition of the last one and the number of entries in its history.
+    /// Automatic checkpoints were made because histories were full: how many since the last such notice, at least 1;
+    /// the partition of the last one, and the number of entries in its history.
     Checkpoints {
         count: u64,
         part: u32,
@@ -36,14 +36,14 @@ pub enum Notice {
         refusal: Refusal,
         cause: Cause,
     },
-    /// Clients were turned away, since this many were connected: how many since the last such notice, at least 1,
+    /// Clients were turned away because this many were connected: how many since the last such notice, at least 1,
     /// and the last of them.
     TurnedAway {
         count: u64,
         client: SocketAddr,
         clients: u64,
     },
-    /// Accepts failed, for example since no descriptor was free: how many since the last such notice, at least 1.
+    /// Accepts failed, for example because no descriptor was free: how many since the last such notice, at least 1.
     /// They are tried again.
     NotAccepted {
         count: u64,

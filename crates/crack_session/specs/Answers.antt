@@ -50,7 +50,8 @@ pub record IsAsked (bounds : Bounds) (splits : List Bound) (tables : List PlainV
 abbrev pub QueriesInTurn : Bounds → List Bound → Query → List PlainView → List (ℕ × Range) → Result (List PartReply) Refusal → List PlainView → Type 0
 QueriesInTurn bounds splits query tables parts outcome new = InTurn (λ (part : ℕ × Range) (reply : Result Reply Refusal) (before after : List PlainView). IsOutcomeAt bounds splits before part.0 (asking query part.1) reply × (after ≡ tables_after bounds before part.0 (asking query part.1) reply)) tables parts outcome new
 
--- Several partitions execute a query in turn, and their replies are joined.
+-- Several partitions execute a query in turn: the answer is their joint reply or the first refusal, and `new` are
+-- the partitions afterwards.
 pub record IsJoined (bounds : Bounds) (splits : List Bound) (tables : List PlainView) (query : Query) (parts : List (ℕ × Range)) (answer : Answer) (new : List PlainView) : Type 0 where
   pub outcome : Result (List PartReply) Refusal
   pub asked : QueriesInTurn bounds splits query tables parts outcome new
@@ -94,8 +95,8 @@ pub record AreWatched (tables : List PlainView) (answer : Answer) : Type 0 where
   pub traffic : Option Traffic
   pub answer_is : answer ≡ Numbers (added_up no_statistics each) traffic
 
--- A checkpoint of one partition is made: the answer has the number of commands accepted since the last checkpoint,
--- or is a refusal, and `new` are the partitions afterwards.
+-- A checkpoint of one partition is made: the answer has the number of commands accepted since the previous one, or
+-- is a refusal, and `new` are the partitions afterwards.
 pub record IsFolded (tables : List PlainView) (part : ℕ) (answer : Answer) (new : List PlainView) : Type 0 where
   pub outcome : Result ℕ Refusal
   pub comes_out : IsFoldOutcome (slice_get tables part) outcome

@@ -66,7 +66,8 @@ abbrev pub AreMeasured : ℕ → Result Statistics Refusal → List Call → Typ
 AreMeasured count (Ok statistics) calls = (each : List Statistics) × (statistics ≡ added_up no_statistics each) × (length each ≡ count) × (calls ≡ measured_from 0 each)
 AreMeasured count (Err e) calls = (each : List Statistics) × (calls ≡ measured_from 0 each ++ Measured (length each) (Err e) ∷ [])
 
--- the traffic of the server is requested after the statistics of its table, unless there was a refusal
+-- the calls `front` gave the statistics of a table: then the traffic of its server is requested, and the answer has
+-- both; or they gave a refusal, which is the answer
 abbrev pub IsSurveyed : Result Statistics Refusal → List Call → Answer → List Call → Type 0
 IsSurveyed (Ok statistics) front answer calls = (traffic : Option Traffic) × (answer ≡ Numbers statistics traffic) × (calls ≡ front ++ Surveyed traffic ∷ [])
 IsSurveyed (Err e) front answer calls = (answer ≡ Refused e) × (calls ≡ front)

@@ -30,16 +30,18 @@ abbrev pub finished_lines : List ℕ → List ℕ → List (List ℕ)
 finished_lines begun [] = []
 finished_lines begun (b ∷ bs) = if b == 10 then begun ∷ finished_lines [] bs else finished_lines (cut_line (begun ++ b ∷ [])) bs
 
--- the line that bytes leave unfinished, cut to the bytes that a session keeps
+-- the line that bytes leave unfinished, cut to the bytes that a session keeps; it begins with `begun` if the bytes
+-- have no line feed
 abbrev pub unfinished : List ℕ → List ℕ → List ℕ
 unfinished begun [] = begun
 unfinished begun (b ∷ bs) = if b == 10 then unfinished [] bs else unfinished (cut_line (begun ++ b ∷ [])) bs
 
--- the statements in the lines that bytes finish
+-- the statements in the lines that bytes finish; the first line begins with `begun`
 abbrev pub fed : List ℕ → List ℕ → List Reading
 fed begun bytes = filter_map reading_of (finished_lines begun bytes)
 
--- the number of the first refusal for lack of room, after the answer to statement `n`
+-- the number of the first refusal for lack of room: the one noted before, or else `n` if the answer to statement
+-- `n` is such a refusal
 abbrev pub first_noted : Option ℕ → ℕ → Answer → Option ℕ
 first_noted (Some k) n answer = Some k
 first_noted None n answer = if is_short_answer answer then Some n else None

@@ -10,7 +10,7 @@ use Rattle.crack_core.specs.Steps.{Bounds, bounds_from, IsOutcome, IsLayoutOutco
 use Rattle.crack_core.specs.Jobs.{AtPart, IsFoldedAt}
 use Rattle.crack_session.specs.Calls.{Call, Asked, Checkpointed, Looked, Measured, Surveyed}
 
--- the outcome of a call of partitions whose rows are known, and their rows afterwards
+-- the outcome of a desk's call, if the rows of its partitions are known, and their rows afterwards
 abbrev pub rows_lead : Bounds → List Bound → List PlainView → Call → List PlainView → Type 0
 rows_lead bounds splits old (Asked part command policy outcome) new =
     IsOutcome bounds (keys_of_part splits part) (slice_get old part) command outcome
@@ -32,6 +32,6 @@ stores_lead old (Looked part outcome) new = IfOk outcome (λ layout. (p : Part) 
 stores_lead old (Measured part outcome) new = (outcome ≡ expected_statistics (slice_get old part)) × (new ≡ old)
 stores_lead old (Surveyed traffic) new = new ≡ old
 
--- the effect of a call of a core, as a desk
+-- the effect of a call of a core that serves as a desk: on its rows, and on its stores
 abbrev pub core_leads : CoreState → Call → CoreState → Type 0
 core_leads old call new = rows_lead (bounds_from old.limits) old.splits (tables_of old.parts) call (tables_of new.parts) × stores_lead old.parts call new.parts

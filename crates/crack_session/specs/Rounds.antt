@@ -12,7 +12,8 @@ use Rattle.crack_session.specs.declared.feeding.Why.TheVariants.{Full}
 use Rattle.crack_session.specs.Calls.{Call}
 use Rattle.crack_session.specs.Feeding.{SessionState, Feeds, StoppedFor}
 
--- A session is fed once, and the texts are written.
+-- A session is fed once, takes `taken` of the bytes and stops for the reason `why`, and the texts are written with
+-- this result.
 pub record IsRound {D W : Type 0} (bounds : D → Bounds) (splits : D → List Bound) (tables : D → Option (List PlainView)) (leads : D → Call → D → Type 0) (contents : W → Option (List ℕ)) (old : SessionState) (bytes : List ℕ) (taken : ℕ) (why : Why) (result : Result (Unit {0}) Refusal) (desk desk' : D) (writer writer' : Watched W) (new : SessionState) : Type 0 where
   pub texts : List ℕ
   pub feeds : Feeds bounds splits tables leads old (take taken bytes) desk desk' [] texts new

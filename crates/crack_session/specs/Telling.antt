@@ -17,8 +17,8 @@ use Rattle.crack_session.specs.Answers.{IsJoined}
 use Rattle.crack_session.specs.Calls.{Call, Asked, Calls}
 use Rattle.crack_core.specs.Steps.{Bounds, IsOutcomeAt, tables_after}
 
--- The calls of a desk satisfy `AreSuch`, and its tables, if they are known, change as `IsChange` says. Its bounds
--- and splits stay.
+-- A desk gets from one state to another by calls that satisfy `AreSuch`. Its tables, if they are known, change as
+-- `IsChange` says. Its bounds and splits stay the same.
 pub record AsksDesk {D : Type 0} (bounds : D → Bounds) (splits : D → List Bound) (tables : D → Option (List PlainView)) (leads : D → Call → D → Type 0) (IsChange : Bounds → List Bound → List PlainView → List PlainView → Type 0) (AreSuch : List Bound → List Call → Type 0) (old new : D) : Type 0 where
   pub is : (known : List PlainView) → tables old ≡ Some known → (next : List PlainView) × IsChange (bounds old) (splits old) known next × (tables new ≡ Some next)
   pub bounds_are : bounds new ≡ bounds old

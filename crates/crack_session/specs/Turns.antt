@@ -16,7 +16,8 @@ use Rattle.crack_session.specs.declared.session.How.TheVariants.{Quit, InputEnde
 use Rattle.crack_session.specs.Calls.{Call}
 use Rattle.crack_session.specs.Feeding.{SessionState, Feeds}
 
--- the bytes that a session is fed for a read: a line feed if the read brought none, since the input has ended
+-- the bytes that a session is fed for a read: those that were read, or a line feed at the end of the input, where
+-- there are none
 abbrev pub fed_by : List ℕ → List ℕ
 fed_by [] = 10 ∷ []
 fed_by (b ∷ bs) = b ∷ bs

@@ -42,7 +42,7 @@ pub enum Answer {
         part: u32,
         layout: Layout,
     },
-    /// A checkpoint was made: how many commands the partition accepted since its last one.
+    /// A checkpoint was made: how many commands the partition had accepted since its previous one.
     Folded(u64),
     /// The statistics of one partition, or those of the table with the traffic of its server, if there is a server.
     Numbers {
@@ -76,8 +76,9 @@ impl Answer {
     }
 }
 
-/// Answers a statement: an insert at the partition of its key, a delete or an update at the partition in its row
-/// number, and a count, sum or select at each partition that holds a part of the range.
+/// Executes what a statement requires at the desk, and returns the answer. An insert goes to the partition of its
+/// key, a delete or an update to the partition in its row number, and a count, sum or select to each partition that
+/// holds a part of the range. A refusal is the answer `Refused`.
 pub fn answer_statement<D: Desk>(
     alloc: Global,
     desk: &mut D,
@@ -149,7 +150,8 @@ fn ask_part<D: Desk>(desk: &mut D, policy: Policy, part: u32, command: Command) 
     }
 }
 
-/// Executes a query on each partition that holds a part of the range. Takes no memory but the desk's if only one does.
+/// Executes a query on each partition that holds a part of the range, and answers with the joint reply, or with the
+/// first refusal. Takes no memory but the desk's if there is only one such partition.
 fn ask_range<D: Desk>(
     alloc: Global,
     desk: &mut D,
@@ -189,7 +191,8 @@ impl<'a, D: Desk> AskPart for Lent<'a, D> {
     }
 }
 
-/// Queries several partitions in turn, once there is memory for their replies, and joins the replies.
+/// Queries several partitions in turn, each over its part of a range, and answers with the joint reply, or with the
+/// first refusal. None is queried if no memory is found for their replies.
 fn ask_several<D: Desk>(
     alloc: Global,
     desk: &mut D,
@@ -238,8 +241,8 @@ fn lay_out<D: Desk>(desk: &D, part: u32) -> Answer
     }
 }
 
-/// Makes a checkpoint of one partition, and answers with the number of its commands since the last one, or with the
-/// refusal of the desk.
+/// Makes a checkpoint of one partition, and answers with the number of commands that it had accepted since its
+/// previous one, or with the refusal of the desk.
 fn fold_part<D: Desk>(desk: &mut D, part: u32) -> Answer
     ensures { AsksDesk D.bounds D.splits D.tables D.leads (λ bounds splits tables. IsFolded tables part result)
         (λ splits calls. (outcome : Result ℕ Refusal) × (calls ≡ Checkpointed part outcome ∷ []) ×

@@ -64,8 +64,8 @@ pub trait Desk {
         // A single call: this command on this partition under this policy, with this outcome.
         ensures leads { leads self.old (Asked part command policy result) self.new };
 
-    /// Makes a checkpoint of one partition, and returns how many commands it accepted since the last one: its rows
-    /// stay as they are, and its history is emptied. The checkpoint itself isn't kept in the history. Refused with
+    /// Makes a checkpoint of one partition, and returns how many commands it had accepted since its previous one;
+    /// that count restarts at 0. Its rows stay as they are. No history records the checkpoint. Refused with
     /// `NoSuchPartition` if there is no such partition, and with `OutOfMemory` if no memory is found. A refusal
     /// changes nothing.
     fn checkpoint(&mut self, part: u32) -> Result<u64, Refusal>

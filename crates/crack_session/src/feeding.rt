@@ -114,16 +114,17 @@ impl Session {
     }
 
     /// The number, from 1, of the first statement that was refused with `HistoryFull`, `OutOfMemory`, `NoCell` or
-    /// `LifeOver`.
+    /// `LifeOver`; `None` if none was.
     pub fn first_short(&self) -> Option<u64>
         ensures { result ≡ self.now.progress.first_short }
     {
         self.progress.first_short
     }
 
-    /// Takes the next bytes of the input, answers the statements in the lines that they finish, and appends the texts
-    /// to the output. Stops when all bytes are taken, when the output has too little room for the next text or for the
-    /// rest of one, or after a line that ends the session. An insert, a count or a sum takes no memory but the desk's.
+    /// Takes the next bytes of the input, answers the statements in the lines that they finish, and appends the
+    /// texts to the output. Stops when all bytes are taken, when the output has too little room for the next text
+    /// or for the rest of one, or after a line that ends the session. Takes no memory but the desk's, except for a
+    /// query of several partitions.
     pub fn feed<D: Desk>(
         &mut self,
         alloc: Global,
@@ -146,7 +147,8 @@ impl Session {
         }
     }
 
-    /// Takes the end of the input: an unfinished line is answered as if a line feed followed.
+    /// Takes the end of the input: an unfinished line is answered as if a line feed followed. Returns what `feed`
+    /// returns for this line feed; if the output is full, the call must be repeated.
     pub fn end<D: Desk>(&mut self, alloc: Global, desk: &mut D, out: &mut Output) -> Fed
         ensures feeds { Feeds D.bounds D.splits D.tables D.leads self.old (take result.taken (10 ∷ [])) desk.old
             desk.new out.old.items out.new.items self.new }
@@ -159,8 +161,8 @@ impl Session {
         self.feed(alloc, desk, b"\n", out)
     }
 
-    /// Appends the rest of a text, and returns why the session takes none of the `left` bytes, or `None` if it takes
-    /// some.
+    /// Appends as much of the rest of a text as there is room for, and returns why the session takes none of the
+    /// next `left` bytes, or `None` if it takes some.
     #[inline(always)]
     fn stops(&mut self, left: usize, out: &mut Output) -> Option<Why>
         ensures text { out.new.items ++ self.new.unwritten ≡ out.old.items ++ self.old.unwritten }
@@ -298,7 +300,7 @@ impl Session {
         push(&mut self.begun, &bytes[..bytes.len().min(room)]);
     }
 
-    /// Finishes the unfinished line with these bytes, and parses it.
+    /// Finishes the unfinished line with these bytes, and parses it. `None` if it is blank.
     fn finish(&mut self, rest: &[u8]) -> Option<Result<Statement, Refusal>>
         ensures few { length self.old.begun ≤ KEPT_BYTES }
         ensures reading { result ≡ reading_of (self.old.begun ++ rest.now) }
@@ -313,7 +315,7 @@ impl Session {
         reading
     }
 
-    /// Answers a parsed line, unless it is blank.
+    /// Answers a parsed line, unless it is blank (`None`).
     fn respond<D: Desk>(
         &mut self,
         alloc: Global,
@@ -354,8 +356,8 @@ impl Session {
         }
     }
 
-    /// Appends the text of a reply, and counts the statement. Notes nothing else, since a reply sets no policy and is
-    /// no refusal.
+    /// Appends the beginning of a reply's text, keeps the rest, and counts the statement. Records nothing else,
+    /// because a reply sets no policy and isn't a refusal.
     #[inline(always)]
     fn tell_reply(&mut self, part: u32, reply: Reply, out: &mut Output)
         requires { length out.old.items + LONGEST_TEXT ≤ OUTPUT_BYTES }
@@ -381,7 +383,7 @@ impl Session {
         self.tell(Answer::Refused(refusal), out);
     }
 
-    /// Records an answer in the session's progress, and appends the beginning of its text.
+    /// Records an answer in the session's progress, appends the beginning of its text, and keeps the rest.
     fn tell(&mut self, answer: Answer, out: &mut Output)
         requires { length out.old.items + LONGEST_TEXT ≤ OUTPUT_BYTES }
         ensures text { out.new.items ++ self.new.unwritten ≡ out.old.items ++ answer_text answer }
@@ -417,7 +419,7 @@ fn ended_by(ending: Option<Ending>, reading: &Result<Statement, Refusal>) -> Opt
     }
 }
 
-/// Answers a parsed line: a statement, or the refusal of a line that is none.
+/// Answers a parsed line: a statement, or the refusal of a line that isn't one.
 fn answer_reading<D: Desk>(
     alloc: Global,
     desk: &mut D,

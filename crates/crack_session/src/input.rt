@@ -10,7 +10,7 @@ pub const READ_BYTES: usize = 4096;
 /// How many bytes of an unfinished line are kept. A line with more bytes is too long, whatever follows.
 pub const KEPT_BYTES: usize = 202;
 
-/// The index of the first line feed, or the length.
+/// The index of the first line feed, or the length if there is none.
 pub fn feed_at(bytes: &[u8]) -> usize
     ensures within { result ≤ length bytes.now }
     ensures front { take result bytes.now ≡ first_line bytes.now }

@@ -27,7 +27,7 @@ pub fn read_line(line: &[u8]) -> Option<Result<Statement, Refusal>>
     Some(parse_statement(line))
 }
 
-/// Whether a line ends the session.
+/// Whether a parsed line ends the session.
 #[inline(always)]
 pub fn is_last(reading: &Result<Statement, Refusal>) -> bool
     ensures { result ≡ is_last reading.now }
@@ -35,7 +35,7 @@ pub fn is_last(reading: &Result<Statement, Refusal>) -> bool
     matches!(reading, Ok(Statement::End(_)))
 }
 
-/// A line without the carriage return at its end.
+/// The line without the carriage return at its end, if it has one.
 fn without_return(line: &[u8]) -> &[u8]
     ensures { result.now ≡ without_return line.now }
 {

@@ -76,7 +76,7 @@ impl Rest {
     }
 }
 
-/// Appends the lines of rows from index `at` on, and returns the rest.
+/// Appends the lines of rows from index `at` on while there is room, and returns the rest.
 fn append_rows(part: u32, rows: RowList, at: usize, out: &mut Output) -> Rest
     ensures text { out.new.items ++ rest_text result ≡ out.old.items ++ flat_map (row_text part) (drop at rows) }
     ensures grows { length out.old.items ≤ length out.new.items }
@@ -90,7 +90,8 @@ fn append_rows(part: u32, rows: RowList, at: usize, out: &mut Output) -> Rest
     }
 }
 
-/// Appends the lines of several partitions' rows, from the row `at` of the list `list` on, and returns the rest.
+/// Appends the lines of several partitions' rows, from the row `at` of the list `list` on, while there is room, and
+/// returns the rest.
 fn append_lists(lists: ReplyList, list: usize, at: usize, out: &mut Output) -> Rest
     ensures text { out.new.items ++ rest_text result ≡ out.old.items ++ lists_from (drop list lists) at }
     ensures grows { length out.old.items ≤ length out.new.items }
@@ -104,7 +105,7 @@ fn append_lists(lists: ReplyList, list: usize, at: usize, out: &mut Output) -> R
     }
 }
 
-/// Appends the lines of pieces from index `at` on, and returns the rest.
+/// Appends the lines of pieces from index `at` on while there is room, and returns the rest.
 fn append_pieces(layout: Layout, at: usize, out: &mut Output) -> Rest
     ensures text { out.new.items ++ rest_text result ≡ out.old.items ++ flat_map piece_text (drop at layout.pieces) }
     ensures grows { length out.old.items ≤ length out.new.items }

@@ -68,7 +68,8 @@ pub fn serve<D: Desk, R: Read, W: Write>(
     }
 }
 
-/// Makes the reads of a new session.
+/// Makes the reads of a new session, and returns how it ended. Refused with `ReadFault` or `WriteFault` if a device
+/// fails, and with `ReadFault` after `MOST_READS` reads.
 fn serve_reads<D: Desk, R: Read, W: Write>(
     alloc: Global,
     desk: &mut D,
@@ -116,9 +117,10 @@ fn serve_reads<D: Desk, R: Read, W: Write>(
 }
 
 /// Reads once, answers the bytes, writes the texts and flushes. At the end of the input an unfinished line is
-/// answered. Returns how the session ended, if it did. The output is empty before and after. Whatever the devices
-/// do, the session is fed only bytes that were read, and the texts that it appends are written. If the writer fails,
-/// a prefix of the texts is written, and no more is lost than fits into the output.
+/// answered. Returns how the session ended, or `None` if it goes on. Refused with `ReadFault` or `WriteFault` if a
+/// device fails. The output is empty before and after. Whatever the devices do, the session is fed only bytes that
+/// were read, and the texts that it appends are written. If the writer fails, a prefix of the texts is written, and
+/// no more is lost than fits into the output.
 pub fn serve_read<D: Desk, R: Read, W: Write>(
     alloc: Global,
     desk: &mut D,
@@ -158,7 +160,8 @@ fn read_some<R: Read>(
     }
 }
 
-/// Answers the bytes of a read, and flushes. Returns how the session ended, if it did.
+/// Answers the bytes of a read, writes the texts and flushes. Returns how the session ended, or `None` if it goes
+/// on. Refused with `WriteFault` if the writer fails.
 fn serve_bytes<D: Desk, W: Write>(
     alloc: Global,
     desk: &mut D,
@@ -182,7 +185,8 @@ fn serve_bytes<D: Desk, W: Write>(
     }
 }
 
-/// The bytes that the session is fed for a read: a line feed if the read brought none, since the input has ended.
+/// The bytes that the session is fed for a read: those that were read, or a line feed at the end of the input,
+/// where there are none.
 #[inline(always)]
 fn fed_by(bytes: &[u8]) -> &[u8]
     ensures { result.now ≡ fed_by bytes.now }
@@ -190,8 +194,8 @@ fn fed_by(bytes: &[u8]) -> &[u8]
     if bytes.is_empty() { b"\n" } else { bytes }
 }
 
-/// How a session ended that stopped for this reason after it was fed these bytes of a read, none at the end of the
-/// input. `None` if it goes on.
+/// How a session ended that stopped for this reason after the bytes of a read, of which there are none at the end
+/// of the input. `None` if it goes on.
 fn how_after(why: Why, bytes: &[u8]) -> Option<How>
     ensures { (left : ℕ) → (s : SessionState) → StoppedFor why left [] s → StopsAs result bytes.now left s }
 {
@@ -207,7 +211,8 @@ fn how_after(why: Why, bytes: &[u8]) -> Option<How>
     }
 }
 
-/// Feeds bytes to a session until it wants more or has ended, and writes the texts.
+/// Feeds bytes to a session until it wants more or has ended, writes the texts, and returns why it stopped. Refused
+/// with `WriteFault` if the writer fails.
 fn feed_all<D: Desk, W: Write>(
     alloc: Global,
     desk: &mut D,
@@ -274,6 +279,7 @@ fn feed_rest<D: Desk, W: Write>(
 }
 
 /// Feeds bytes to a session until the output is full or the session wants more or has ended, and writes the texts.
+/// Returns the result of the feed, and that of the write.
 fn feed_once<D: Desk, W: Write>(
     alloc: Global,
     desk: &mut D,

@@ -27,7 +27,7 @@ pub struct End {
     /// How many statements were answered.
     pub statements: u64,
     /// The number, from 1, of the first statement that was refused with `HistoryFull`, `OutOfMemory`, `NoCell` or
-    /// `LifeOver`.
+    /// `LifeOver`; `None` if none was.
     pub first_short: Option<u64>,
 }
 
@@ -40,7 +40,7 @@ pub struct Fault {
     /// written.
     pub done: u64,
     /// The number, from 1, of the first statement that was refused with `HistoryFull`, `OutOfMemory`, `NoCell` or
-    /// `LifeOver`.
+    /// `LifeOver`; `None` if none was.
     pub first_short: Option<u64>,
 }
 

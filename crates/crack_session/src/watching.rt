@@ -28,7 +28,8 @@ pub fn watch_part<D: Desk>(desk: &D, part: u32) -> Answer
     }
 }
 
-/// Answers with the sum of the statistics of all partitions, and the traffic of the server, if there is one.
+/// Answers with the sum of the statistics of all partitions, and the traffic of the server, if there is one; or
+/// with the first refusal of the desk.
 pub fn watch<D: Desk>(desk: &D) -> Answer
     ensures { AsksDesk D.bounds D.splits D.tables D.leads (λ bounds splits tables new. AreWatched tables result ×
         (new ≡ tables)) (λ splits calls. AreAllMeasured splits result calls) desk.now desk.now }

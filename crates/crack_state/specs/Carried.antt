@@ -16,7 +16,7 @@ use Rattle.crack_state.specs.Queues.{Event, comes, turns, stopped, in_bulk, bulk
 abbrev pub pieces_of : State → Pieces Handle
 pieces_of s = cut 0 s.marks s.column
 
--- whether a key is at or above the ceiling, if there is one
+-- whether a key is at or above the ceiling; false if there is no ceiling
 abbrev pub is_over : Option ℕ → ℕ → Bool
 is_over None key = false
 is_over (Some bound) key = nat_le bound key
@@ -29,7 +29,7 @@ is_doomed s h = nat_lt 0 (times h.slot (slots s.pending_out))
 abbrev pub ends_with : Option ℕ → State → Handle → Bool
 ends_with ceiling s h = is_doomed s h || is_over ceiling (key_at s.cells h)
 
--- the tally with this many more rows moved
+-- the tally with this many more rows moved, up to the greatest number of a counter
 abbrev pub moved_by : ℕ → MergeReport → MergeReport
 moved_by count tally = record tally { moved = min (tally.moved + count) greatest }
 
@@ -54,7 +54,7 @@ ended_so (stopped moved hand) s =
     let c = carried_with s s.column s.marks moved hand in
     record (cond (is_doomed s hand) (buried c) (returned c)) { in_room = s.in_room }
 
--- the store after outcomes, in order
+-- the store after these outcomes of carries, in order
 abbrev pub ended_by : List (Event Handle) → State → State
 ended_by [] s = s
 ended_by (e ∷ es) s = ended_by es (ended_so e s)
@@ -63,11 +63,11 @@ ended_by (e ∷ es) s = ended_by es (ended_so e s)
 abbrev pub inside_of : List (Cell Row) → Range → List Handle → List Handle
 inside_of cells r hs = filter (λ h. is_in r (key_at cells h)) hs
 
--- the tally with this many more rows put in
+-- the tally with this many more rows put in, up to the greatest number of a counter
 abbrev pub put_in_by : ℕ → MergeReport → MergeReport
 put_in_by count tally = record tally { put_in = min (tally.put_in + count) greatest }
 
--- the arrivals of the pending insertions in a range, in order
+-- the pending insertions in a range, in order, each as the event by which it reaches the lowest piece
 abbrev pub arrivals : Range → State → List (Event Handle)
 arrivals r s = map comes (inside_of s.cells r s.pending_in)
 

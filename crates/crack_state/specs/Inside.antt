@@ -9,7 +9,8 @@ use Rattle.crack_state.specs.Merge.{RefinesBy, Follows, Tallies, StillReads, Som
 abbrev pub RefinesAt : State → State → ℕ → Type 0
 RefinesAt s u bound = RefinesBy (λ b. (b ≡ bound) × (s.keys.low < b) × (b < s.keys.high)) s u
 
--- what holds after every carry and every pull of a merge of this policy, and so after any number of them: pending
+-- what holds after every carry and every pull of a merge of this policy, and so after any number of them: commands
+-- see the same rows, the counts are right, a handle that still reads a row reads the same one, and pending
 -- deletions are only removed
 pub record Advances (policy : Policy) (s t : State) : Type 0 where
   pub follows : Follows s t

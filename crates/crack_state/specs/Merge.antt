@@ -55,7 +55,7 @@ stretch s r = between (edge s r.low) (edge s r.high) s.column
 abbrev pub Stands : State → ℕ → Type 0
 Stands s bound = s.keys.low < bound → bound < s.keys.high → HasBound s.marks bound
 
--- the store is cracked at both ends of the range
+-- the store is cracked at both ends of the range: each is in the index, or isn't inside the partition
 abbrev pub IsCracked : State → Range → Type 0
 IsCracked s r = Stands s r.low × Stands s r.high
 
@@ -125,7 +125,7 @@ pub record Evicts (s : State) (r : Range) (left : List Handle) : Type 0 where
   pub some : SomeOf evicted (drop (edge s r.high) s.column)
   pub few : length evicted ≤ count_inside s.cells r s.pending_in
 
--- the bound of a mark, or the default
+-- the bound of a mark, or `end` if there is none
 abbrev pub bound_or : ℕ → Option Mark → ℕ
 bound_or end None = end
 bound_or end (Some m) = m.bound.0
@@ -138,14 +138,14 @@ bound_above s bound = bound_or s.keys.high (next_mark bound s.marks)
 abbrev pub beyond : State → Range → Range
 beyond s r = record { low = r.high; high = bound_above s r.high }
 
--- the handles without the first `count` of those whose key is in the range
+-- `left` are these handles without the first `count` of those whose key is in the range
 pub record LosesFirst (cells : List (Cell Row)) (r : Range) (count : ℕ) (hs left : List Handle) : Type 0 where
   pub passed : ℕ
   pub left_are : left ≡ without_first cells r passed hs
   pub count_is : count_inside cells r (take passed hs) ≡ count
 
--- store `t` has these pending insertions except the first fillers, at most as many as the pending deletions in the
--- range
+-- the pending insertions of `t` are the handles `hs` without the first fillers, at most as many as there were
+-- pending deletions in the range
 pub record Fills (s t : State) (r : Range) (hs : List Handle) : Type 0 where
   pub count : ℕ
   pub few : count ≤ count_inside s.cells r s.pending_out
@@ -182,8 +182,8 @@ abbrev pub IsExact : MergeReport → Type 0
 IsExact tally = EachCounter (λ n same. n < greatest) tally tally
 
 -- the counts from s to t if every counter is exact, with q pieces: the rows put in and not evicted have left the
--- pending insertions, the rows taken out have left the pending deletions, each row put in moved at most q rows, and
--- each row taken out pulled at most q
+-- pending insertions, the rows taken out have left the pending deletions, the rows put in moved at most q rows
+-- each on average, and the rows taken out pulled at most q each on average
 pub record Counts (s t : State) (q : ℕ) : Type 0 where
   pub put_in : t.tally.put_in + length t.pending_in + s.tally.evicted ≡ s.tally.put_in + length s.pending_in + t.tally.evicted
   pub taken_out : t.tally.taken_out + length t.pending_out ≡ s.tally.taken_out + length s.pending_out

@@ -11,15 +11,15 @@ use Rattle.crack_serials.specs.Serials.{handle_of, Maps}
 use Rattle.crack_state.specs.State.{State, freed_of}
 use Rattle.crack_state.specs.Steps.{next_handle, SameButRoom}
 
--- the row of a serial, if any
+-- the row with a serial, if any
 abbrev pub row_by : State → ℕ → Option Row
 row_by s serial = option_and_then (read s.cells) (handle_of s.serials serial)
 
--- whether the row of a serial is a pending insertion, or `None` if there is no such row
+-- whether the row with a serial is a pending insertion, or `None` if there is no such row
 abbrev pub pending_by : State → ℕ → Option Bool
 pending_by s serial = option_map (λ (h : Handle). nat_lt 0 (times h.slot (slots s.pending_in))) (handle_of s.serials serial)
 
--- the handle of a serial
+-- the handle of the row with a serial, or the default handle if there is none
 abbrev pub handle_by : State → ℕ → Handle
 handle_by s serial = unwrap_or (handle_of s.serials serial) no_handle
 
@@ -40,7 +40,7 @@ struck h s =
 abbrev pub doomed_too : Handle → State → State
 doomed_too h s = record s { pending_out = s.pending_out ++ h ∷ [] }
 
--- the row in a cell is replaced
+-- the row in the handle's cell is replaced by this one
 abbrev pub overwritten : Row → Handle → State → State
 overwritten row h s = record s { cells = slice_set s.cells h.slot (record { generation = h.generation; value = Some row }) }
 
@@ -84,13 +84,14 @@ Rewrites None row s t = t ≡ s
 Rewrites (Some true) row s t = t ≡ overwritten row (handle_by s row.serial.0) s
 Rewrites (Some false) row s t = Renews row s t
 
--- a row may be renewed: a cell is free or one more may be made, and one more may be freed later
+-- a row of the column may be renewed, that is, replaced by a row in a new cell: a cell is free or one more may be
+-- made, and one more may be freed later
 pub record IsRenewable (s : State) : Type 0 where
   pub cell : length s.cells < MOST_CELLS + length s.free
   pub few : MayFree s
 
--- a row may be rewritten: a row with its serial exists, its key is the partition's, and the old row may be renewed
--- if it is in the column
+-- a row may be rewritten: the store has a row with its serial, the new key is the partition's, and the store's row,
+-- if it is in the column, may be renewed (`IsRenewable`)
 pub record IsRewritable (row : Row) (s : State) : Type 0 where
   pub there : IsSome (handle_of s.serials row.serial.0)
   pub within : IsIn s.keys row.key.0

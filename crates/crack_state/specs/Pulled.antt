@@ -13,7 +13,7 @@ use Rattle.crack_state.specs.Carried.{pieces_of, inside_of}
 
 -- `key` and `handle` of each doomed row
 module _ {D : Type 0} (key : D → ℕ) (handle : D → Handle) where
-  -- the last piece has each doomed row that isn't in a lower piece
+  -- true: every doomed row is in the last piece or in a lower one
   abbrev pub any_doomed : D → Bool
   any_doomed d = true
 
@@ -21,21 +21,22 @@ module _ {D : Type 0} (key : D → ℕ) (handle : D → Handle) where
   abbrev pub ends_above : InnerBound → D → Bool
   ends_above bound d = nat_lt (key d) bound.0
 
-  -- the pieces after the pulls of all doomed rows: each after those of itself and of lower pieces
+  -- the pieces, the first of which begins at the bound `low`, after the pulls of all doomed rows: each piece after
+  -- those of its own rows and of the rows of lower pieces
   abbrev pub pulled : ℕ → List D → Pieces Handle → Pieces Handle
   pulled low ds (last rows) = last (drained key handle low any_doomed ds rows)
   pulled low ds (below rows bound pieces) = below (drained key handle low (ends_above bound) ds rows) bound (pulled bound.0 ds pieces)
 
-  -- how often these pulls move a row
+  -- how often the pulls of all doomed rows move a row of the pieces
   abbrev pub all_drawn : ℕ → List D → Pieces Handle → ℕ
   all_drawn low ds (last rows) = drawn key handle low any_doomed ds rows
   all_drawn low ds (below rows bound pieces) = drawn key handle low (ends_above bound) ds rows + all_drawn bound.0 ds pieces
 
--- a handle, as its own doomed row
+-- the handle of a doomed row that is given as its handle
 abbrev pub itself : Handle → Handle
 itself h = h
 
--- the tally with this many more rows pulled
+-- the tally with this many more rows pulled, up to the greatest number of a counter
 abbrev pub pulled_by : ℕ → MergeReport → MergeReport
 pulled_by count tally = record tally { pulled = min (tally.pulled + count) greatest }
 
@@ -44,7 +45,7 @@ abbrev pub buried_all : List Handle → State → State
 buried_all [] s = s
 buried_all (h ∷ hs) s = buried_all hs (buried (record { store = s; hand = h }))
 
--- the store after the pulls of these doomed rows
+-- the store after the pulls of these doomed rows, without fillers
 abbrev pub pulled_from : List Handle → State → State
 pulled_from hs s =
     let pieces = pulled (key_at s.cells) itself 0 hs (pieces_of s) in

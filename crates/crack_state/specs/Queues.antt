@@ -18,7 +18,7 @@ module _ {X : Type 0} (key : X → ℕ) (stops : X → Bool) where
   abbrev pub is_below : InnerBound → X → Bool
   is_below bound x = nat_lt (key x) bound.0
 
-  -- every row is in the last piece or in a lower one
+  -- true: every row is in the last piece or in a lower one
   abbrev pub any_row : X → Bool
   any_row x = true
 
@@ -27,18 +27,18 @@ module _ {X : Type 0} (key : X → ℕ) (stops : X → Bool) where
   after_turn [] = []
   after_turn (y ∷ ys) = cond (stops y) ys (ys ++ y ∷ [])
 
-  -- the state of a carry after it turned a piece
+  -- the state of a carry after it turned a piece with these rows; `moved` rows had moved before
   abbrev pub onward : ℕ → List X → Event X
   onward moved [] = turns moved
   onward moved (y ∷ ys) = cond (stops y) (stopped (suc moved) y) (turns (suc moved))
 
-  -- the piece after an event
+  -- the piece after an event; `own` is whether a row is in this piece or in a lower one
   abbrev pub after_event : (X → Bool) → Event X → List X → List X
   after_event own (comes x) rows = cond (own x) (rows ++ x ∷ []) rows
   after_event own (turns moved) rows = after_turn rows
   after_event own (stopped moved y) rows = rows
 
-  -- the event that reaches the next piece
+  -- the event that reaches the next piece, after this event reached a piece with these rows
   abbrev pub next : (X → Bool) → Event X → List X → Event X
   next own (comes x) rows = cond (own x) (turns 0) (comes x)
   next own (turns moved) rows = onward moved rows
@@ -49,7 +49,7 @@ module _ {X : Type 0} (key : X → ℕ) (stops : X → Bool) where
   left_after own [] rows = rows
   left_after own (e ∷ es) rows = left_after own es (after_event own e rows)
 
-  -- the events that reach the next piece
+  -- the events that reach the next piece, after these events reached a piece with these rows, in order
   abbrev pub passed : (X → Bool) → List (Event X) → List X → List (Event X)
   passed own [] rows = []
   passed own (e ∷ es) rows = next own e rows ∷ passed own es (after_event own e rows)

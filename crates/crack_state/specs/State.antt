@@ -13,8 +13,8 @@ use Rattle.crack_column.specs.Column.{IsDividedAt}
 use Rattle.crack_state.specs.declared.MergeReport.{MergeReport}
 
 -- the partition's keys, the cells and the free list of the arena, the column, the pending lists, the marks of the
--- index, the handle of each live serial, the tally, and for how many more handles the column and the pending
--- insertions have room
+-- index, the handle of each live serial, the tally of what merges counted, and for how many more handles the
+-- column and the pending insertions have room
 pub record State : Type 0 where
   pub keys : Range
   pub cells : List (Cell Row)
@@ -51,7 +51,7 @@ pub record IsOwned (cells : List (Cell Row)) (free : List ℕ) (column pending_i
 abbrev pub IsObeyed : List Mark → List ℕ → Type 0
 IsObeyed marks keys = All (λ (m : Mark). IsDividedAt m.bound.0 keys m.position) marks
 
--- the row that commands see in the cell with this number: the cell's row, unless it is doomed
+-- the row that commands see in the cell with this number, if any: the cell's row, unless it is doomed
 abbrev pub live_at : List (Cell Row) → List ℕ → ℕ → Option Row
 live_at cells doomed n = if times n doomed == 0 then (cell_at cells n).value else None
 
@@ -74,7 +74,7 @@ freed_of cells = sum_by (λ (c : Cell Row). c.generation) cells
 abbrev pub greatest : ℕ
 greatest = 2 ^ 64 - 1
 
--- each counter of one report is related like this to the same counter of another
+-- `R` relates each counter of one report to the same counter of the other
 pub record EachCounter (R : ℕ → ℕ → Type 0) (before after : MergeReport) : Type 0 where
   pub put_in : R before.put_in after.put_in
   pub taken_out : R before.taken_out after.taken_out

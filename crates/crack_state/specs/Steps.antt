@@ -25,12 +25,14 @@ piece_start s key = start_of (last_mark key s.marks)
 abbrev pub piece_end : State → ℕ → ℕ
 piece_end s key = end_of (length s.column) (next_mark key s.marks)
 
--- the marks after the lowest bound above a key, and the higher ones at its place, moved up by one
+-- the marks, with this one (the lowest above a key, if there is one) and the higher ones at its place moved up by
+-- one
 abbrev pub raise_next : Option Mark → List Mark → List Mark
 raise_next None marks = marks
 raise_next (Some m) marks = map (raised m.bound.0 m.position) marks
 
--- the marks after the greatest bound at or below a key, and the lower ones at its place, moved down by one
+-- the marks, with this one (the highest at or below a key, if there is one) and the lower ones at its place moved
+-- down by one
 abbrev pub lower_last : Option Mark → List Mark → List Mark
 lower_last None marks = marks
 lower_last (Some m) marks = map (lowered m.bound.0 m.position) marks
@@ -43,7 +45,8 @@ IsDoomed c = 0 < times c.hand.slot (slots c.store.pending_out)
 abbrev pub more : ℕ → ℕ
 more n = min (n + 1) greatest
 
--- the hand takes a place of the column, and the handle that was there is in hand
+-- the hand takes a place of the column, and the handle that was there is in hand; the store gets these marks and
+-- this tally
 abbrev pub put_at : ℕ → List Mark → MergeReport → Carried → Carried
 put_at place marks tally c =
     record {
@@ -55,7 +58,7 @@ put_at place marks tally c =
       hand = slice_index_or c.store.column place c.hand;
     }
 
--- lift: the i-th pending insertion is taken into the hand
+-- lift: the pending insertion at place `i`, counted from 0, is taken into the hand
 abbrev pub lifted : ℕ → State → Carried
 lifted i s =
     record {
@@ -159,7 +162,7 @@ returned c =
       in_room = c.store.in_room - 1;
     }
 
--- the number of a bound, if there is one
+-- the number of a ceiling, if there is one
 abbrev pub ceiling_of : Option Bound → Option ℕ
 ceiling_of None = None
 ceiling_of (Some bound) = Some bound.0

@@ -22,18 +22,20 @@ pub record Round (X : Type 0) : Type 0 where
 
 -- whether a carry ends with a row in hand
 module _ {X : Type 0} (stops : X → Bool) where
-  -- whether a row that passes the test goes on from a piece: no carry has ended with it
+  -- whether a row goes on from a piece: it passes the test `own`, and no carry ends with it
   abbrev pub goes_on : (X → Bool) → X → Bool
   goes_on own t = own t && not (stops t)
 
-  -- once none of the piece's first rows is left, a row takes the place of the first row that went on from the
-  -- piece, which goes on again from the place of that row
+  -- a row `t` turns a piece none of whose first rows is left: it takes the place of the first row of the queue
+  -- that goes on from the piece, and that row goes to the queue's end; the rows before it turn no more
   abbrev pub round : (X → Bool) → X → List X → List X → Round X
   round own t done [] = record { done = done ++ t ∷ []; queue = []; made = 0 }
   round own t done (q ∷ qs) =
       cond (goes_on own q) (record { done = done ++ t ∷ []; queue = qs ++ q ∷ []; made = 1 }) (round own t (done ++ q ∷ []) qs)
 
-  -- rows pass a piece in order; `under` says which of them turn it, and `own` which are in it or in a lower piece
+  -- the rows `ts` pass a piece in order: `under` says which of them turn it, and `own` which are in it or in a
+  -- lower piece. `rows` are those of its first rows that are left, `front` are the rows that took the places of
+  -- the others, and `done` and `queue` are those of a `Round`
   abbrev pub swept : (X → Bool) → (X → Bool) → List X → List X → List X → List X → List X → Swept X
   swept under own [] front rows done queue = record { piece = front ++ rows; tail = done ++ queue; made = 0 }
   swept under own (t ∷ ts) front [] done queue =
@@ -48,10 +50,10 @@ module _ {X : Type 0} (key : X → ℕ) (stops : X → Bool) where
   abbrev pub is_lower : ℕ → X → Bool
   is_lower low x = nat_lt (key x) low
 
-  -- every row is in the last piece or in a lower one
+  -- true: every row is in the last piece or in a lower one
   abbrev pub any_lower : X → Bool
   any_lower x = true
 
-  -- the rows pass a piece that begins at this bound
+  -- the result after the rows `ts` passed a piece that begins at the bound `low` and has these rows
   abbrev pub swept_by : ℕ → (X → Bool) → List X → List X → Swept X
   swept_by low own ts rows = swept stops (is_lower low) own ts [] rows [] []

@@ -41,7 +41,8 @@ pub record DrainPasses (v : Drain) (m : Mark) (end : ℕ) (w : Drain) : Type 0 w
   pub room : w.column.room ≡ v.column.room
   pub remembered : StillRemembers v.column w.column
 
--- the rows are pulled out of the piece below a bound, if the bound is after the gap
+-- the doomed rows are pulled out of the piece below a bound, if that isn't before the next piece or past the
+-- column's end
 abbrev pub Empties : Drain → Mark → ℕ → Drain → Type 0
 Empties v m end w = v.from ≤ m.position → m.position ≤ length v.column.handles → DrainPasses v m end w
 

@@ -31,6 +31,7 @@ pub record RisesUnder (v : CeilingSieve) (m : Mark) (rise : ℕ) (w : CeilingSie
 abbrev pub stop_of : CeilingStop → Mark → ℕ
 stop_of v m = cond (nat_lt m.bound.0 v.ceiling) m.position (max (m.position - v.count) v.least)
 
+-- a bound is put at the place that `stop_of` gives
 abbrev pub StandsUnder : CeilingStop → Mark → ℕ → CeilingStop → Type 0
 StandsUnder v m place w = (place ≡ stop_of v m) × (w ≡ v)
 

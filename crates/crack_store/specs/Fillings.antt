@@ -21,7 +21,7 @@ use Rattle.crack_state.specs.State.{State, IsIntact}
 use Rattle.crack_store.specs.declared.filling.DrainBelow.{DrainBelow}
 use Rattle.crack_store.specs.Drainings.{doomed_of, Empties, AreBuried}
 
--- the keys of a range begin at the bound of a mark, and no other bound is among them
+-- the keys of a range begin at the bound of this mark of the index, and no other bound is among them
 pub record IsNextTo (fillers : Range) (marks : List Mark) (m : Mark) : Type 0 where
   pub there : Contains marks m
   pub same : m.bound.0 ≡ fillers.low

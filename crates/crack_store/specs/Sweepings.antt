@@ -17,12 +17,14 @@ use Rattle.crack_store.specs.declared.sweeping.Sweep.{Sweep}
 abbrev pub ends_in : List Handle → Handle → Bool
 ends_in out h = nat_lt 0 (times h.slot (slots out)) || false
 
--- whether a row is of the piece that ends at this bound, or of one below it
+-- whether a row belongs to the piece that ends at this bound, or to one below it; every row does if there is no
+-- bound
 abbrev pub up_to : List (Cell Row) → List Handle → Option InnerBound → Handle → Bool
 up_to cells out None = any_lower (key_at cells) (ends_in out)
 up_to cells out (Some bound) = is_lower (key_at cells) (ends_in out) bound.0
 
--- a piece that then begins at the bound `low`, with the rows that turn it
+-- what becomes of the piece `rows`, which begins at the bound `low` and ends at `high`, and of the rows `ts` that
+-- pass it
 abbrev pub sweep_of : List (Cell Row) → List Handle → ℕ → Option InnerBound → List Handle → List Handle → Swept Handle
 sweep_of cells out low high ts rows = swept_by (key_at cells) (ends_in out) low (up_to cells out high) ts rows
 

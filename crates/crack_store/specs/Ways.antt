@@ -10,7 +10,7 @@ use Rattle.crack_state.specs.Steps.{more}
 use Rattle.crack_store.specs.declared.ascent.Ascent.{Ascent}
 use Rattle.crack_store.specs.declared.ascent.Descent.{Descent}
 
--- the row is known to be below the ceiling, if there is one
+-- the remembered key of a row is below the ceiling; nothing is required if there is no ceiling
 abbrev pub IsKnownBelow : Option Bound → Memory → Type 0
 IsKnownBelow None m = ⊤
 IsKnownBelow (Some bound) m = (m.key ≢ unknown) × (m.key < bound.0)
@@ -26,6 +26,7 @@ pub record TakesUp (v : Ascent) (place : ℕ) (w : Ascent) : Type 0 where
   pub pending_out : w.pending_out ≡ v.pending_out
   pub ceiling : w.ceiling ≡ v.ceiling
 
+-- the hand is exchanged with the place, or its way ends and nothing changes
 abbrev pub Ascends : Ascent → ℕ → Bool → Ascent → Type 0
 Ascends v place true w = TakesUp v place w
 Ascends v place false w = w ≡ v

@@ -65,8 +65,8 @@ impl Store {
     }
 }
 
-/// Appends the rows of a list to the column, in order, each with what is remembered of it. O(rows) if the list has
-/// no holes; the cells are read in the order of the list.
+/// Appends the rows of a list to the column, in order, with their keys and payloads. O(rows) if the list has no
+/// holes; the cells are read in the order of the list.
 fn append_rows(column: &mut CrackerColumn, rows: &PendingIn, arena: &Arena<Row>)
     requires room { length rows.now.handles ≤ column.old.room }
     requires reads { All (Reads arena.now.cells) rows.now.handles }

@@ -1,4 +1,4 @@
-//! The visitors of a walk over the bounds that move the hand up or down. They hold the column meanwhile.
+//! The visitors that move the hand up or down on a walk over the bounds. They hold the column meanwhile.
 ghost use Rattle.std.specs.Prelude.{◌≤◌, IsTrue};
 ghost use Rattle.crack_column.specs.Column.{first_aside};
 ghost use Rattle.crack_state.specs.Steps.{ceiling_of, hand_key, piece_start, PushesOn, PullsBack};
@@ -16,7 +16,7 @@ use crack_index::Visitor;
 use crack_pending::PendingOut;
 use crack_row::Bound;
 
-/// Moves the hand up, under a ceiling or none.
+/// The visitor that pushes the hand on from place to place, below a ceiling if there is one.
 #[derive(Drop)]
 pub(crate) struct Ascent<'a> {
     column: HeldColumn,
@@ -27,7 +27,8 @@ pub(crate) struct Ascent<'a> {
 }
 
 impl Ascent<'_> {
-    /// Whether the row in hand is known to be below the ceiling. O(1); reads no cell.
+    /// Whether the remembered key of the row in hand is below the ceiling: true if there is no ceiling, false if no
+    /// key is remembered. O(1); reads no cell.
     #[inline(always)]
     fn is_below(&self) -> bool
         ensures { IsTrue result → IsKnownBelow self.now.ceiling (first_aside self.now.column).memory }
@@ -48,7 +49,7 @@ impl Visitor for Ascent<'_> {
     ghost visits = { Ascends };
 
     /// Pushes the hand on to the place, if the hand isn't doomed and is known to be below the ceiling, and the
-    /// place is in the column.
+    /// place is in the column. Returns whether it did.
     #[inline(always)]
     fn visit(&mut self, place: usize) -> bool {
         if self.pending_out.contains(self.column.slot()) {
@@ -67,8 +68,8 @@ impl Visitor for Ascent<'_> {
 }
 
 /// Pushes the hand on from place to place as long as it isn't doomed, is known to be below the ceiling, and its own
-/// piece ends before the column does. Returns the bound at which its piece then ends. O(log bounds), and the bounds
-/// at the places on its way; takes no memory.
+/// piece ends before the column does. Returns the bound at which its piece then ends. O(log bounds + bounds at the
+/// places on its way); takes no memory.
 #[inline(always)]
 pub(crate) fn ascend(inside: &mut Inside, ceiling: Option<Bound>) -> Near
     requires { HasHand inside.old }
@@ -89,7 +90,7 @@ pub(crate) fn ascend(inside: &mut Inside, ceiling: Option<Bound>) -> Near
     Near::Above(above)
 }
 
-/// Moves the hand down to a place.
+/// The visitor that pulls the hand back from place to place, but not below `place`.
 #[derive(Drop)]
 pub(crate) struct Descent<'a> {
     column: HeldColumn,
@@ -108,8 +109,8 @@ impl Visitor for Descent<'_> {
 
     ghost visits = { Draws };
 
-    /// Pulls the hand back to the place, unless that is below the place where its way ends. Notes the new place of
-    /// a doomed row.
+    /// Pulls the hand back to the place, unless it is below the field `place` or isn't in the column. Returns
+    /// whether it did. Notes the new place of the row that was in hand, if that row is doomed.
     #[inline(always)]
     fn visit(&mut self, place: usize) -> bool {
         if place < self.place {
@@ -125,8 +126,8 @@ impl Visitor for Descent<'_> {
     }
 }
 
-/// Pulls the hand back from place to place as long as its own piece begins after `place`. O(log bounds), and the
-/// bounds at the places on its way; takes no memory.
+/// Pulls the hand back from place to place as long as its own piece begins after `place`. O(log bounds + bounds at
+/// the places on its way); takes no memory.
 #[inline(always)]
 pub(crate) fn descend(inside: &mut Inside, place: usize)
     requires { HasHand inside.old }

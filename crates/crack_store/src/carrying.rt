@@ -20,15 +20,15 @@ use std::marker::Model;
 /// The bound above the row in hand, kept from the last look-up: the next step up continues from it.
 #[derive(Clone, Copy)]
 pub(crate) enum Near {
-    /// It isn't kept: the next step looks it up.
+    /// The bound isn't kept: the next step looks it up.
     Unsought,
-    /// The least bound above the row's key.
+    /// The least bound above the row's key; `None` if no bound is above it.
     Above(Option<Mark>),
 }
 
 /// A store while a merge moves a row. That row is in hand: its cell is in no list, and the column keeps its tag
-/// aside, after the last place. So a step exchanges two of the column's tags and reads no generation. It can't be
-/// dropped: a last step returns the store.
+/// aside, after the last place. So a step exchanges two of the column's tags and reads no generation. A `Carrying`
+/// can't be dropped: a last step returns the store.
 pub struct Carrying {
     pub(crate) inside: Inside,
     pub(crate) near: Near,
@@ -110,7 +110,8 @@ impl Carrying {
         self.inside.column.aside_key(&self.inside.arena)
     }
 
-    /// The least bound above the key in hand. O(1) after a step up (`push_on`), else O(log bounds).
+    /// The least bound above the key in hand; `None` if no bound is above it. O(1) after a step up (`push_on`),
+    /// else O(log bounds).
     #[inline]
     pub(crate) fn bound_above(&self) -> Option<Mark>
         ensures { result ≡ next_mark (hand_key self.now) self.now.store.marks }
@@ -121,7 +122,7 @@ impl Carrying {
         }
     }
 
-    /// The place where the own piece of the row in hand ends: the piece that its key belongs to. O(1) after a step up
+    /// The place where the hand's own piece ends: the piece to which its key belongs. O(1) after a step up
     /// (`push_on`), else O(log bounds).
     pub fn piece_ends_at(&self) -> usize
         ensures value { result ≡ piece_end self.now.store (hand_key self.now) }
@@ -134,9 +135,9 @@ impl Carrying {
         }
     }
 
-    /// Puts the row in hand where its own piece ends, and takes the row that was there into the hand: a step up. Each
-    /// bound at that place above the key of the first row moves up by one. O(1), and the bounds at that place; the
-    /// first step up O(log bounds) more.
+    /// A step up: puts the row in hand at the place where its own piece ends, which must be in the column, and
+    /// takes the row that was there into the hand. Each bound at that place above the key of the row put there
+    /// moves up by one. O(1 + bounds at that place); the first step up O(log bounds) more.
     pub fn push_on(&mut self)
         requires { piece_end self.old.store (hand_key self.old) < length self.old.store.column }
         ensures after { self.new ≡ pushed_on self.old }
@@ -200,8 +201,8 @@ impl Carrying {
         Store { inside }
     }
 
-    /// Appends the hand to the column, if its own piece ends there. Each bound at that place above its key moves up
-    /// by one. O(1), and the bounds at that place; without a step up before, O(log bounds) more.
+    /// Appends the hand to the column; its own piece must end where the column does. Each bound at that place above
+    /// its key moves up by one. O(1 + bounds at that place); without a step up before, O(log bounds) more.
     pub fn append(self) -> Store
         requires ends { piece_end self.store (hand_key self) ≡ length self.store.column }
         requires room { 0 < self.store.column_room }

@@ -17,7 +17,7 @@ impl Store {
     }
 
     /// Forgets the next bound that a pass finds, and returns it; `None` at the end of the pass. Moves no row. Takes
-    /// no memory. O(log bounds), and a step for each bound that the pass meets.
+    /// no memory. O(log bounds + bounds that the pass meets).
     pub fn forget_few(&mut self, pass: &mut Pass) -> Option<InnerBound>
         ensures found { (result, pass.new) ≡ next_few (length self.old.column) pass.old self.old.marks }
         ensures there { IfSome result (λ b. HasBound self.old.marks b.0) }

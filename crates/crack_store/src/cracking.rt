@@ -54,8 +54,9 @@ impl Missing {
     }
 }
 
-/// The bound with its piece, if it lies between the ends of the partition's keys and isn't in the index. O(log
-/// bounds): a bound is in the index exactly if the piece of its key begins at it.
+/// The bound, with the piece into which it falls. `None` if the index has the bound, or if it isn't strictly
+/// between the ends of the partition's keys. O(log bounds): the index has a bound exactly if the piece of its key
+/// begins at it.
 pub(crate) fn gap_at(inside: &Inside, bound: Bound) -> Option<Gap>
     ensures bound { IfSome result (λ gap. gap.bound.0 ≡ bound.0) }
     ensures missing { IfSome result (λ gap. MissesIn (lists_of inside.now) gap.bound.0 gap.piece) }
@@ -85,8 +86,9 @@ fn end_of(piece: Piece, keys: KeyRange) -> Bound
     }
 }
 
-/// Codes the keys of pending rows that have no code yet. Does nothing while there is no bound, since the first read
-/// may merge all of them. Amortised O(1) for each pending row.
+/// Makes the missing 16-bit codes of pending rows' keys if many are missing, so that later passes read codes instead
+/// of keys. Does nothing while there is no bound, since the first read may merge all pending rows. Amortised O(1) for
+/// each pending row. Contracts see no change.
 #[inline]
 pub(crate) fn code_pending(inside: &mut Inside)
     ensures { inside.new ≡ inside.old }
@@ -145,8 +147,8 @@ pub(crate) fn crack_at_ends(inside: &mut Inside, range: KeyRange, missing: Missi
     }
 }
 
-/// Cracks the piece of a missing bound in two, and returns the bound's place. Takes no memory. O(size of the
-/// piece + bounds).
+/// Cracks in two the piece into which a missing bound falls, adds the bound to the index, and returns its place.
+/// Takes no memory. O(size of the piece + bounds).
 fn crack_in(inside: &mut Inside, gap: Gap) -> usize
     requires intact { KeepsIntact inside.old [] }
     requires missing { MissesIn (lists_of inside.old) gap.bound.0 gap.piece }
@@ -165,7 +167,8 @@ fn crack_in(inside: &mut Inside, gap: Gap) -> usize
     place
 }
 
-/// Cracks the piece into which two missing bounds fall in three. Takes no memory. O(size of the piece + bounds).
+/// Cracks in three the piece into which two missing bounds fall, and adds them to the index. Takes no memory.
+/// O(size of the piece + bounds).
 fn crack_together(inside: &mut Inside, low: Gap, high: InnerBound)
     requires intact { KeepsIntact inside.old [] }
     requires missing { FallTogether (lists_of inside.old) low high }

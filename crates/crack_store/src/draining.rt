@@ -23,7 +23,8 @@ use crack_pending::PendingOut;
 use crack_row::{KeyNumber, KeyRange, Row};
 use std::alloc::Global;
 
-/// If there are many bounds, fewer rows than this are pulled one at a time: a walk over all bounds isn't worth it.
+/// If there are many bounds, fewer rows than this are pulled one at a time: they aren't worth a walk over all
+/// bounds.
 const FEWEST: usize = 16;
 
 /// There are many bounds if there are more than this.
@@ -33,11 +34,10 @@ pub(crate) const FEW_BOUNDS: usize = 64;
 const SHORT: usize = 4096;
 
 impl Store {
-    /// Pulls all pending deletions of a range in bulk, each by the column's last row, with the result of pulling
+    /// Pulls all pending deletions of a range in bulk, each by the column's last row. The result is that of pulling
     /// them one after the other. Returns `false`, and changes nothing, if none are in the range, if few are and
     /// there are many bounds, if one is in a long piece, or if no memory is found to list them. O(pending deletions
-    /// and holes); for each row that it pulls, O(bounds) without waiting for memory, and one search of its piece,
-    /// which is short; O(bounds).
+    /// and holes + bounds), and for each row pulled O(bounds) and one search of its piece, which is short.
     pub fn pull_in_bulk(&mut self, range: KeyRange) -> bool
         ensures pulled { IsTrue result → self.new ≡ pulled_in_bulk range self.old }
         ensures left { IsTrue result → self.new.pending_out ≡ outside_of self.old.cells range self.old.pending_out }
@@ -58,7 +58,8 @@ impl Store {
     }
 }
 
-/// The rows of a list whose keys are in the range, in order; `None` if no memory is found for them.
+/// The pending deletions whose keys are in the range, in order of arrival; `None` if no memory is found to list
+/// them. O(pending deletions).
 pub(crate) fn doomed_in(
     rows: &PendingOut,
     range: KeyRange,
@@ -83,7 +84,8 @@ pub(crate) fn doomed_in(
     Some(doomed)
 }
 
-/// Whether a walk over all bounds is worth it for these rows. O(rows · log bounds).
+/// Whether these pending deletions are worth a walk over all bounds: they aren't if they are few and there are many
+/// bounds, or if one is in a long piece. O(rows · log bounds).
 pub(crate) fn is_worth_bulk(inside: &Inside, doomed: &[Doomed]) -> bool {
     if doomed.len() < FEWEST && FEW_BOUNDS < inside.index.len() {
         return false;
@@ -126,8 +128,8 @@ fn pull_rows(inside: &mut Inside, doomed: Vec<Doomed>)
     bury_all(inside, &doomed);
 }
 
-/// Pulls the doomed rows out of the last piece, and removes all pulled rows from the column, whose last rows they
-/// are.
+/// Pulls the doomed rows out of the last piece. All pulled rows are then the last ones of the column; removes them
+/// from it.
 fn drain_last(drain: &mut Drain)
     requires { IsDrainReady drain.old }
     ensures { IsDrainedTo drain.old drain.new }
@@ -167,8 +169,8 @@ pub(crate) fn bury_all(inside: &mut Inside, doomed: &[Doomed])
     inside.pending_out.shrink_if_empty(0);
 }
 
-/// A visitor of a walk over the bounds from the lowest up, which pulls doomed rows out of the column. The piece
-/// that begins at the bound `low` and the place `from` is next; the rows pulled from the pieces below fill the
+/// A visitor of a walk over the bounds from the lowest up, which pulls doomed rows out of the column. The next
+/// piece begins at the bound `low` and the place `from`. The rows pulled out of the pieces below it are in the
 /// `gap` places before it.
 #[derive(Drop)]
 pub(crate) struct Drain {

@@ -24,19 +24,19 @@ use crack_index::{CrackerIndex, Mark, Placer, Raiser};
 use crack_pending::PendingIn;
 use crack_row::{Bound, KeyNumber, KeyRange, Row};
 
-/// The number of bounds that a walk passes in the time in which one row is carried by itself.
+/// A walk passes this many bounds in about the time in which one row is carried by itself.
 const BOUNDS_A_ROW: usize = 8;
 
-/// The number of pending insertions that a pass looks at in the time in which a walk passes one bound.
+/// A pass looks at this many pending insertions in about the time in which a walk passes one bound.
 const ROWS_A_BOUND: usize = 256;
 
 impl Store {
-    /// Carries all pending insertions of a range in bulk under a ceiling, with the result of carrying them one
-    /// after the other; `first` is the first of them. Returns `false`, and changes nothing, if they are few, if any
-    /// row is doomed, if no bound is at the ceiling, or if no memory is found for all of them and for the rows that
-    /// they evict. Makes room for all of them at once. Two passes over the pending insertions, or one if many are
-    /// pending and there are few bounds; for each row that it carries, O(pieces below the ceiling) without waiting
-    /// for memory; two walks over the bounds.
+    /// Carries all pending insertions of a range in bulk under a ceiling; `first` is the place of the first of
+    /// them. The result is that of carrying them one after the other. Returns `false`, and changes nothing, if they
+    /// are few, if any row is doomed, if no bound is at the ceiling, or if no memory is found for all of them and
+    /// for the rows that they evict. Makes room for all of them at once. Makes two passes over the pending
+    /// insertions, or one if many are pending and there are few bounds, and two walks over the bounds; O(pieces
+    /// below the ceiling) for each row carried.
     pub fn carry_under(&mut self, range: KeyRange, first: usize, ceiling: Bound) -> bool
         requires high { range.high ≤ ceiling.0 }
         requires first { Finds range (keys_at self.old.cells self.old.pending_in) 0 (Some first) }
@@ -86,14 +86,15 @@ fn mark_of(inside: &Inside, ceiling: Bound) -> Option<Mark>
     Some(mark)
 }
 
-/// Whether so many insertions are pending that counting those of a range costs more than a walk over all bounds. O(1).
+/// Whether the pending insertions of a range are counted only as they are taken: so many are pending that counting
+/// those of a range first costs more than a walk over all bounds. O(1).
 fn is_counted_late(inside: &Inside) -> bool {
     let pending = inside.pending_in.len();
     MANY_PENDING < pending && inside.index.len() <= pending / ROWS_A_BOUND
 }
 
-/// How many pending insertions of a range there are; `first` is the first of them. If counting them costs too much,
-/// how many pending insertions there are in all.
+/// At least the number of pending insertions of a range: that number itself, or, if counting them costs too much,
+/// the number of all pending insertions. `first` is the place of the first of them.
 fn most_in(inside: &mut Inside, range: KeyRange, first: usize) -> usize
     requires intact { KeepsIntact inside.old [] }
     requires first { Finds range (keys_at inside.old.arena.cells inside.old.pending_in.handles) 0 (Some first) }
@@ -112,8 +113,8 @@ fn is_few(inside: &Inside, count: usize) -> bool {
     count < FEWEST || count < inside.index.len() / BOUNDS_A_ROW
 }
 
-/// Carries the pending insertions of a range under the ceiling at the bound `edge`; `first` is the first of them.
-/// No row is doomed, and there is room for these rows and for those that they evict.
+/// Carries the pending insertions of a range under the ceiling at the bound `edge`; `first` is the place of the
+/// first of them. No row may be doomed, and there must be room for these rows and for those that they evict.
 fn carry_rows(
     inside: &mut Inside,
     range: KeyRange,
@@ -169,9 +170,9 @@ fn carry_rows(
     inside.tally.put_in = inside.tally.put_in.saturating_add(count as u64);
 }
 
-/// Takes the rows of a range out of a list, and puts them into the column from the place `from` on, in order, each
-/// with what is remembered of it. Appends each row that they replace to the list. `taken` gets their handles, and
-/// `known` what is remembered of them. Returns how many came in.
+/// Takes the rows of a range out of the pending insertions `rows`, and puts them, in order, into the column from
+/// the place `from` on. Appends the rows that they replace to `rows`. `taken` gets the handles of the rows taken,
+/// and `known` what is remembered of them. Returns how many were taken.
 fn exchange_rows(
     rows: &mut PendingIn,
     column: &mut CrackerColumn,
@@ -203,7 +204,7 @@ fn exchange_rows(
 }
 
 /// Puts these handles into the column from the place `from` on, in order, each with what is remembered of its row.
-/// Appends each row that they replace to the list. O(1) for each.
+/// Appends the rows that they replace to the pending insertions `rows`. O(1) for each handle.
 fn put_rows(
     rows: &mut PendingIn,
     column: &mut CrackerColumn,
@@ -256,9 +257,9 @@ fn put_at(
     }
 }
 
-/// Sifts the rows of a sieve, which begin at the place of the bound `edge`, through the pieces below it. Each bound
-/// below it moves up by the number of rows that came in below it; the bounds from `edge` on come after the rows.
-/// O(bounds).
+/// Sifts the `count` rows of a sieve, which begin at the place of the bound `edge`, through the pieces below
+/// `edge`. Each lower bound moves up by the number of these rows that are below it; `edge` and the bounds above it
+/// move up only as far as they must to come after the rows. Returns the sieve. O(bounds).
 fn sift_below(index: &mut CrackerIndex, sieve: Sieve, edge: Mark, count: usize) -> Sieve
     requires ready { IsSieveReady sieve }
     requires some { 0 < count }
@@ -302,7 +303,8 @@ impl Raiser for CeilingSieve {
 
     ghost rises = { RisesUnder };
 
-    /// Sifts the rows through the piece above a bound, if the bound is below the ceiling.
+    /// Sifts the rows through the piece above a bound, if the bound is below the ceiling, and returns how many are
+    /// below the bound; else returns how many rows came in.
     fn rise(&mut self, mark: Mark) -> usize {
         if self.ceiling <= mark.bound.number() {
             return self.count;
@@ -328,7 +330,7 @@ impl Placer for CeilingStop {
 
     ghost places = { StandsUnder };
 
-    /// Leaves a bound below the ceiling at its place.
+    /// The place of a bound: its present one if it is below the ceiling, else its former one, but at least `least`.
     fn place(&mut self, mark: Mark) -> usize {
         if mark.bound.number() < self.ceiling {
             return mark.position;

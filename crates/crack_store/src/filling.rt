@@ -25,12 +25,12 @@ use crack_row::{KeyNumber, KeyRange, Row};
 
 impl Store {
     /// Pulls pending deletions of a range in bulk, each by a filler: a pending insertion whose key is in `fillers`;
-    /// `first` is the first of them. Takes the first of both kinds until one is used up, with the result of pulling
-    /// them one after the other. Returns `false`, and changes nothing, if there are many bounds, all of which it
-    /// would walk over, if no pending deletion is in the range, if one is in a long piece, if the fillers' keys
-    /// don't begin at a bound or another bound is among them, or if no memory is found for a list. O(pending rows
-    /// and holes); for each row that it pulls, O(bounds) without waiting for memory, and one search of its piece,
-    /// which is short; O(bounds).
+    /// `first` is the place of the first filler. Takes the deletions and the fillers in order of arrival, until one
+    /// kind is used up. The result is that of pulling them one after the other. Returns `false`, and changes
+    /// nothing, if there are many bounds, if no pending deletion is in the range, if one is in a long piece, if the
+    /// fillers' keys don't begin at a bound or another bound is among them, or if no memory is found for a list.
+    /// O(pending rows and holes + bounds), and for each row pulled O(bounds) and one search of its piece, which is
+    /// short.
     pub fn fill_in_bulk(&mut self, range: KeyRange, fillers: KeyRange, first: usize) -> bool
         requires behind { range.high ≤ fillers.low }
         requires first { Finds fillers (keys_at self.old.cells self.old.pending_in) 0 (Some first) }
@@ -83,8 +83,8 @@ fn edge_of(index: &CrackerIndex, fillers: KeyRange) -> Option<Mark>
     Some(mark)
 }
 
-/// Pulls these pending deletions out of the pieces below the bound `edge`, puts as many fillers before it, of which
-/// `first` is the first, and buries the pending deletions.
+/// Pulls these pending deletions out of the pieces below the bound `edge`, puts as many fillers before it, and
+/// buries the pending deletions. `first` is the place of the first filler.
 fn fill_rows(inside: &mut Inside, doomed: Vec<Doomed>, fillers: KeyRange, first: usize, edge: Mark)
     requires intact { KeepsIntact inside.old [] }
     requires first { Finds fillers (keys_at inside.old.arena.cells inside.old.pending_in.handles) 0 (Some first) }
@@ -130,8 +130,8 @@ fn fill_rows(inside: &mut Inside, doomed: Vec<Doomed>, fillers: KeyRange, first:
     bury_all(inside, &doomed);
 }
 
-/// Takes the first `count` rows of a range out of a list, and puts them into the column before a place, in reverse
-/// order, each with what is remembered of it; `first` is the first of them.
+/// Takes the first `count` fillers out of the pending insertions `rows`, and puts them into the column before
+/// `place`, in reverse order. `first` is the place of the first filler in `rows`.
 fn put_fillers(
     rows: &mut PendingIn,
     column: &mut CrackerColumn,
@@ -177,7 +177,8 @@ impl Placer for DrainBelow {
 
     ghost places = { EmptiesBelow };
 
-    /// Pulls the doomed rows out of the piece below a bound that isn't above `edge`.
+    /// Pulls the doomed rows out of the piece below the bound, and returns where that piece then ends. Leaves a
+    /// bound above `edge` at its place.
     fn place(&mut self, mark: Mark) -> usize {
         if self.edge < mark.bound.number() {
             return mark.position;

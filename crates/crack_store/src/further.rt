@@ -40,8 +40,8 @@ pub(crate) fn crack_further(inside: &mut Inside, range: KeyRange)
     crack_at_ends(inside, range, missing);
 }
 
-/// Cracks at an end of the range and at its further bound, if the end says little about its piece. Takes no memory.
-/// O(size of the piece + bounds).
+/// Cracks at an end of the range and at its further bound, if the end says little about its piece; else changes
+/// nothing. Takes no memory. O(size of the piece + bounds).
 fn crack_beside(inside: &mut Inside, range: KeyRange, end: Bound)
     requires intact { KeepsIntact inside.old [] }
     requires end { (end.0 ≡ range.low) ⊎ (end.0 ≡ range.high) }
@@ -58,7 +58,7 @@ fn crack_beside(inside: &mut Inside, range: KeyRange, end: Bound)
     crack_at_ends(inside, ends, missing);
 }
 
-/// The range between two bounds, in either order. Both are among these keys, or at their ends.
+/// The range between two bounds, given in either order. Both must be among these keys or at their ends.
 fn range_between(keys: KeyRange, one: Bound, other: Bound) -> KeyRange
     requires one { one.0 ≤ keys.high }
     requires other { other.0 ≤ keys.high }
@@ -76,7 +76,8 @@ fn range_between(keys: KeyRange, one: Bound, other: Bound) -> KeyRange
     }
 }
 
-/// The further bound beside an end of the range; `None` if the end says enough about its piece. O(log bounds).
+/// The further bound beside an end of the range; `None` if the end doesn't say little about its piece. O(log
+/// bounds).
 fn further_bound(inside: &Inside, range: KeyRange, end: Bound) -> Option<Bound>
     requires intact { KeepsIntact inside.now [] }
     ensures little { IfSome result (λ further. SaysLittle (lists_of inside.now) range end.0) }
@@ -94,7 +95,8 @@ fn further_bound(inside: &Inside, range: KeyRange, end: Bound) -> Option<Bound>
     Some(bound_at(middle, low_of(piece, inside.keys)))
 }
 
-/// The piece into which a missing bound falls, if it is large and the index isn't empty. O(log bounds).
+/// The piece into which a bound falls. `None` if the bound isn't missing, the piece isn't large, or the index is
+/// empty. O(log bounds).
 fn large_piece(inside: &Inside, bound: Bound) -> Option<Piece>
     requires intact { KeepsIntact inside.now [] }
     ensures own { IfSome result (λ piece. piece ≡ own_piece (lists_of inside.now) bound.0) }
@@ -127,7 +129,7 @@ fn low_of(piece: Piece, keys: KeyRange) -> BoundNumber
     }
 }
 
-/// The bound at a key, but at least one above `low`.
+/// The bound with the number `key`, or with `low + 1` if that is greater.
 fn bound_at(key: KeyNumber, low: BoundNumber) -> Bound
     requires { low ≤ GREATEST_BOUND }
     ensures { result.0 ≡ max key (low + 1) }
@@ -135,7 +137,7 @@ fn bound_at(key: KeyNumber, low: BoundNumber) -> Bound
     Bound::from_number((key as BoundNumber).max(low + 1))
 }
 
-/// Whether one of the range's ends divides the keys well.
+/// Whether one of the range's ends divides the sampled keys well, by `divides_well`.
 fn ends_divide_well(range: KeyRange, keys: &[KeyNumber; SAMPLES]) -> bool
     ensures { IsTrue result ↔ EndsDivideWell range keys.now }
 {
@@ -162,7 +164,7 @@ fn samples(inside: &Inside, piece: Piece) -> [KeyNumber; SAMPLES]
     ]
 }
 
-/// The key at one of the nine places. O(1).
+/// The key at one of the nine places, which `n` numbers from 0. O(1).
 fn sampled(inside: &Inside, piece: Piece, n: usize) -> KeyNumber
     requires intact { KeepsIntact inside.now [] }
     requires within { piece.to ≤ length inside.now.column.handles }

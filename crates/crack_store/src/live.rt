@@ -23,7 +23,7 @@ pub(crate) struct Found {
 }
 
 impl Found {
-    /// Adds a row, if there is one. O(1), amortised.
+    /// Adds a row, if there is one. O(1), amortised. Refused with `OutOfMemory` if no memory is found.
     #[inline(always)]
     fn add(&mut self, row: Option<Row>) -> Result<(), Refusal>
         requires order { KeepsOrder self.old }
@@ -43,10 +43,9 @@ impl Found {
 }
 
 impl Store {
-    /// The live rows, by rising serial. Cracks and merges nothing. O(cells) if serials rise with the cells'
-    /// numbers, in whose order the cells are read. Else O(n log n) for n rows: after an insert into a freed cell,
-    /// or an update of a row of the column, which takes another cell. Refused with `OutOfMemory` if no memory is
-    /// found.
+    /// The live rows, by rising serial. Cracks and merges nothing. O(cells); O(n log n) more to sort the n rows if
+    /// their serials don't rise with the numbers of their cells: after an insert into a freed cell, or an update of
+    /// a row of the column, which takes another cell. Refused with `OutOfMemory` if no memory is found.
     pub fn live_rows(&self) -> Result<Vec<Row>, Refusal>
         ensures rows { IfOk result (λ rows. IsPermutation (live_rows self.now) rows.items) }
         ensures rising { IfOk result (λ rows. IsNonDecreasingBy serial_of rows.items) }

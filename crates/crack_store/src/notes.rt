@@ -28,8 +28,8 @@ impl Notes {
         mem::replace(self, Notes::new(alloc))
     }
 
-    /// Makes room for a note for each of the first `cells` cells. Amortised O(1) for each that has none. Refused
-    /// only with `OutOfMemory`.
+    /// Makes room for a note for each of the first `cells` cells. Amortised O(1) for each cell that has none.
+    /// Refused with `OutOfMemory` if no memory is found; then the notes are unchanged.
     pub(crate) fn make_places(&mut self, cells: usize) -> Result<(), Refusal>
         ensures err { IfErr result (λ e. e ≡ Refusal.OutOfMemory) }
     {
@@ -55,7 +55,7 @@ impl Notes {
     }
 }
 
-/// Adds notes of no place until there are as many notes as cells.
+/// Adds notes that name no place of the column until there are as many notes as cells.
 fn fill_up_to(places: &mut Vec<u32>, cells: usize)
     requires { cells ≤ vec_capacity places.old }
 {

@@ -74,8 +74,8 @@ impl Carrying {
         self.near = take_last(inside);
     }
 
-    /// Evicts the row in hand, as `put_back` does, after which it is the last pending insertion, and takes the one at
-    /// this place into the hand, as `lift` does. Costs what the two do, and moves no store.
+    /// Evicts the row in hand, as `put_back` does, so that it is the last pending insertion; then takes the pending
+    /// insertion at this place into the hand, as `lift` does. Costs what the two do, and moves no store.
     pub fn put_back_and_lift(&mut self, place: usize)
         requires room { 0 < self.old.store.in_room }
         requires kept { times self.old.hand.slot (slots self.old.store.pending_out) ≡ 0 }
@@ -87,9 +87,9 @@ impl Carrying {
         self.near = take_in(&mut self.inside, place);
     }
 
-    /// The place of the first pending insertion at or after `from` whose key is in the range. O(1) for each that it
-    /// passes; it looks at none if the range holds all of the partition's keys. The next lift starts from the place
-    /// found, so that finding and lifting a row is one pass.
+    /// The place of the first pending insertion at or after `from` whose key is in the range; `None` if there is
+    /// none. O(1) for each that it passes; it looks at none if the range holds all of the partition's keys. The
+    /// next lift starts from the place found, so that finding and lifting a row is one pass.
     pub fn seek_in(&mut self, range: KeyRange, from: usize) -> Option<usize>
         ensures finds { Finds range (keys_at self.old.store.cells self.old.store.pending_in) from result }
         ensures same { self.new ≡ self.old }
@@ -104,8 +104,8 @@ impl Carrying {
         inside.pending_in.seek_in(range, from, &inside.arena)
     }
 
-    /// The place of the first pending deletion at or after `from` whose key is in the range; the next look-up
-    /// starts from it. O(1) for each that it passes.
+    /// The place of the first pending deletion at or after `from` whose key is in the range; `None` if there is
+    /// none. The next look-up starts from it. O(1) for each that it passes.
     pub fn seek_out(&mut self, range: KeyRange, from: usize) -> Option<usize>
         ensures finds { Finds range (keys_at self.old.store.cells self.old.store.pending_out) from result }
         ensures same { self.new ≡ self.old }

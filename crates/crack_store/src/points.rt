@@ -29,7 +29,7 @@ impl Store {
         }
     }
 
-    /// How many times a cell was freed.
+    /// How many times cells were freed since the store was made.
     pub fn freed(&self) -> u64
         ensures { result ≡ freed_of self.now.cells }
     {
@@ -89,7 +89,8 @@ impl Store {
         self.doom_at(lead)
     }
 
-    /// Removes a pending insertion whose serial was looked up. Takes no memory. Amortised O(1).
+    /// Removes a pending insertion whose serial was looked up, and returns its row. Takes no memory. Amortised
+    /// O(1).
     fn cancel_at(&mut self, lead: Lead) -> Row
         requires entry { IsLead lead self.old.serials }
         requires found { handle_of self.old.serials lead.serial.0 ≡ Some lead.handle }
@@ -105,7 +106,8 @@ impl Store {
         free(&mut self.inside.arena, handle)
     }
 
-    /// Dooms a row of the column whose serial was looked up. O(1), except for growth.
+    /// Dooms a row of the column whose serial was looked up, and returns it. O(1), except for growth. Refused as
+    /// `doom` is.
     fn doom_at(&mut self, lead: Lead) -> Result<Row, Refusal>
         requires entry { IsLead lead self.old.serials }
         requires found { handle_of self.old.serials lead.serial.0 ≡ Some lead.handle }
@@ -196,8 +198,8 @@ impl Store {
         before
     }
 
-    /// Dooms the row of the column with this serial, which was looked up, and adds the new one in another cell.
-    /// Returns the row as it was. O(1), except for growth.
+    /// Dooms the row of the column whose serial was looked up, and adds the new row, with the same serial, in
+    /// another cell. Returns the row as it was. O(1), except for growth. Refused as `replace` is.
     fn renew(&mut self, lead: Lead, row: Row) -> Result<Row, Refusal>
         requires serial { lead.serial ≡ row.serial }
         requires entry { IsLead lead self.old.serials }

@@ -17,14 +17,15 @@ const BLOCK: usize = 64;
 const FEW: usize = 16;
 
 /// In a piece with at most this many rows, a row is searched for by itself if there are at most as many doomed rows
-/// as bounds, since it is likely to be the only doomed row there.
+/// as bounds, because it is likely to be the only doomed row there.
 const SHORT: usize = 4096;
 
 impl Carrying {
-    /// The place of a doomed row in the column, as `place_of` returns it. O(1) if it was noted, else O(rows of its
-    /// piece + log bounds). A row that is likely to be the only doomed row of its piece is searched for by itself,
-    /// at a fifth of the cost of a pass that notes every doomed row there. Otherwise that pass is made: it serves
-    /// all doomed rows of a long piece, until a crack moves them. Steps that move a doomed row note its new place.
+    /// The place of a doomed row in the column; `None` if it isn't there, as when it is in hand. O(1) if the place
+    /// was noted, else O(rows of its piece + log bounds). A row that is likely to be the only doomed row of its
+    /// piece is searched for by itself, at a fifth of the cost of a pass that notes every doomed row there.
+    /// Otherwise that pass is made: it serves all doomed rows of a long piece, until a crack moves them. Steps that
+    /// move a doomed row note its new place.
     pub fn find(&mut self, handle: Handle<Row>) -> Option<usize>
         ensures value { MatchOption result (IsAbsent self.old.store.column handle)
             (IsFirstAt self.old.store.column handle) }
@@ -44,7 +45,7 @@ impl Carrying {
         }
     }
 
-    /// The place noted for the row, if the row is still there. O(1).
+    /// The place noted for the row; `None` if there is no note, or the row isn't there any more. O(1).
     fn noted(&self, handle: Handle<Row>) -> Option<usize>
         ensures { IfSome result (IsFirstAt self.now.store.column handle) }
     {
@@ -55,8 +56,8 @@ impl Carrying {
         None
     }
 
-    /// Notes the place of a doomed row, alone or with all other doomed rows of its piece. O(rows there + log
-    /// bounds).
+    /// Notes the place of a doomed row, by itself or with those of all other doomed rows of its piece. O(rows there
+    /// + log bounds).
     fn note(&mut self, handle: Handle<Row>)
         ensures { self.new ≡ self.old }
     {

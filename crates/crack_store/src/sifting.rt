@@ -22,10 +22,10 @@ use crack_index::{Mark, Piece, Raiser};
 use crack_pending::PendingIn;
 use crack_row::{KeyRange, Row};
 
-/// The fewest rows that are carried in bulk: for one row the walk over all bounds isn't worth it.
+/// The fewest rows that are carried in bulk: one row isn't worth the walk over all bounds.
 pub(crate) const FEWEST: usize = 2;
 
-/// With more bounds than this, the walk over all bounds isn't worth it for fewer than `FEWEST_OVER_MANY` rows.
+/// With more bounds than this, fewer than `FEWEST_OVER_MANY` rows aren't worth the walk over all bounds.
 const MANY_BOUNDS: usize = 64;
 
 /// The fewest rows that are carried in bulk if there are many bounds.
@@ -38,11 +38,12 @@ pub(crate) const MANY_PENDING: usize = 4096;
 const MOST_DOOMED: usize = 64;
 
 impl Store {
-    /// Carries all pending insertions of a range in bulk, with the result of carrying them one after the other;
-    /// `first` is the first of them. Returns `false`, and changes nothing, if they are few, for a first load of all
-    /// keys, or if no memory is found for all of them. Makes room for all of them at once. Two passes over the
-    /// pending insertions, or one if many are pending and no row is doomed; for each row that it carries, O(pieces)
-    /// without waiting for memory; O(bounds); for each of a few doomed rows, O(rows that it carries + log bounds).
+    /// Carries all pending insertions of a range in bulk; `first` is the place of the first of them. The result is
+    /// that of carrying them one after the other. Returns `false`, and changes nothing, if they are few, if the
+    /// range has all keys and more insertions are pending than the column has rows, or if no memory is found for
+    /// all of them. Makes room for all of them at once. Makes two passes over the pending insertions, or one if
+    /// many are pending and no row is doomed. Then O(bounds), O(pieces) for each row carried, and O(rows carried +
+    /// log bounds) for each of up to 64 doomed rows.
     pub fn carry_in_bulk(&mut self, range: KeyRange, first: usize) -> bool
         requires { Finds range (keys_at self.old.cells self.old.pending_in) 0 (Some first) }
         ensures carried { IsTrue result → SameButRoom (carried_in_bulk None range self.old) self.new }
@@ -82,16 +83,16 @@ fn is_worth_a_pass(inside: &Inside, range: KeyRange) -> bool {
     fits || !is_whole
 }
 
-/// Whether no row is doomed, and so many insertions are pending that counting those of a range costs more than a
-/// walk over all bounds. O(1).
+/// Whether the pending insertions of a range are counted only as they are taken: no row is doomed, and so many
+/// insertions are pending that counting those of a range first costs more than a walk over all bounds. O(1).
 fn is_counted_late(inside: &Inside) -> bool
     ensures { IsTrue result → inside.now.pending_out.handles ≡ [] }
 {
     inside.pending_out.is_empty() && MANY_PENDING < inside.pending_in.len()
 }
 
-/// Carries the pending insertions of a range, at most `most`, if no doomed row is in the way; `first` is the first
-/// of them. Returns whether memory was found for `most` rows; if not, nothing has changed.
+/// Carries the pending insertions of a range, which are at most `most`; `first` is the place of the first of them.
+/// No doomed row may be in the way. Returns whether memory was found for `most` rows; if not, nothing has changed.
 fn carry_at_most(inside: &mut Inside, range: KeyRange, first: usize, most: usize) -> bool
     requires intact { KeepsIntact inside.old [] }
     requires clear { AreClear (length (inside_of inside.old.arena.cells range inside.old.pending_in.handles))
@@ -121,7 +122,7 @@ fn carry_at_most(inside: &mut Inside, range: KeyRange, first: usize, most: usize
     true
 }
 
-/// How many rows of a list have their key in the range; `first` is the first of them.
+/// How many pending insertions have their key in the range; `first` is the place of the first of them. O(rows).
 pub(crate) fn count_in(
     rows: &mut PendingIn,
     range: KeyRange,
@@ -183,8 +184,9 @@ fn is_in_way(inside: &Inside, handle: Handle<Row>, count: usize) -> bool
     inside.column.place_between(from, met, handle).is_some()
 }
 
-/// Carries the pending insertions of a range; `first` is the first of them. No doomed row is in the way. There is
-/// room for the rows, for their handles in `taken`, and for what is remembered of them in `known`.
+/// Carries the pending insertions of a range; `first` is the place of the first of them. No doomed row may be in
+/// the way. There must be room for the rows, for their handles in `taken`, and for what is remembered of them in
+/// `known`.
 fn carry_rows(
     inside: &mut Inside,
     range: KeyRange,
@@ -253,7 +255,8 @@ impl Raiser for Sieve {
 
     ghost rises = { SieveRises };
 
-    /// Sifts the rows that came in through the piece above the bound, which rises by the number of them below it.
+    /// Sifts the incoming rows through the piece above the bound. The bound rises by the number of them that are
+    /// below it, which is returned.
     fn rise(&mut self, mark: Mark) -> usize {
         let Mark { bound, position } = mark;
         if self.from < position {

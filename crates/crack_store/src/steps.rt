@@ -16,9 +16,9 @@ use crate::points::row_at;
 use crack_arena::Remembered;
 use crack_index::{CrackerIndex, Mark};
 
-/// Takes the pending insertion at this place into the hand, with what is remembered of its row. Doesn't look up the
-/// bound next to the hand. Amortised O(1) at the first place, or after the one taken last; takes no memory. A list
-/// that becomes empty frees its memory.
+/// Takes the pending insertion at this place into the hand. Doesn't look up the bound above the hand: returns
+/// `Near::Unsought`. Amortised O(1) at the first place, or after the one taken last; takes no memory. A list that
+/// becomes empty frees its memory.
 pub(crate) fn take_in(inside: &mut Inside, place: usize) -> Near
     requires intact { KeepsIntact inside.old [] }
     requires there { place < length inside.old.pending_in.handles }
@@ -35,7 +35,7 @@ pub(crate) fn take_in(inside: &mut Inside, place: usize) -> Near
 }
 
 /// Takes the column's last row into the hand, with what is remembered of it. Each bound after the row moves down by
-/// one. Doesn't look up the bound next to the hand. O(log bounds), and the bounds at that place; takes no memory.
+/// one. Returns `Near::Unsought`, as `take_in` does. O(log bounds + bounds at that place); takes no memory.
 pub(crate) fn take_last(inside: &mut Inside) -> Near
     requires intact { KeepsIntact inside.old [] }
     requires some { 0 < length inside.old.column.handles }
@@ -64,8 +64,8 @@ pub(crate) fn free_hand(inside: &mut Inside)
     inside.tally.taken_out = inside.tally.taken_out.saturating_add(1);
 }
 
-/// Appends the hand to the column; `above` is the bound above its key. O(1), and the bounds at that place; takes no
-/// memory.
+/// Appends the hand to the column, where its own piece must end. `above` is the least bound above its key; it and
+/// the other bounds at that place above the key move up by one. O(1 + bounds at that place); takes no memory.
 pub(crate) fn put_last(inside: &mut Inside, above: Option<Mark>)
     requires hand { HasHand inside.old }
     requires above { above ≡ next_mark (hand_key (carried_of inside.old)) inside.old.index.marks }
@@ -93,7 +93,8 @@ pub(crate) fn give_back(inside: &mut Inside)
     inside.tally.evicted = inside.tally.evicted.saturating_add(1);
 }
 
-/// Moves up by one each bound above a key at the place where the key's piece ends; `above` is the least of them.
+/// Moves up by one each bound above a key at the place where the key's piece ends. `above` is the least of them; if
+/// it is `None`, no bound moves.
 fn raise_next(index: &mut CrackerIndex, above: Option<Mark>)
     requires there { IfSome above (λ m. Contains index.old.marks m) }
     requires small { All (λ m. m.position < usize.MAX) index.old.marks }

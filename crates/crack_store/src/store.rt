@@ -128,11 +128,12 @@ impl Store {
         Ok(())
     }
 
-    /// Cracks the column at both ends of the range, as `crack` does, and before that beside them, the low one
-    /// first: if there are bounds, the end is missing, its piece has more than 2,048 rows, and of nine keys sampled
-    /// there neither end of the range has at least three on each side, it cracks at the end and at a further bound
-    /// in the middle of these keys. O(size of their pieces + bounds); O(log bounds) for ends that are already
-    /// there, which takes no memory. Refused with `OutOfMemory` if no memory is found; then nothing has changed.
+    /// Cracks the column at both ends of the range, as `crack` does. Before that, for each end, the low one first:
+    /// if there are bounds, the end would be a new one, its piece has more than 2,048 rows, and neither end of the
+    /// range has at least three of nine keys sampled there on each side, it cracks at the end and at a further
+    /// bound, the median of these keys. O(size of their pieces + bounds); O(log bounds) for ends that are already
+    /// in the index, which takes no memory. Refused with `OutOfMemory` if no memory is found; then nothing has
+    /// changed.
     pub fn crack_further(&mut self, range: KeyRange) -> Result<(), Refusal>
         ensures ok { OnOk result (CracksFurther self.old self.new range) }
         ensures cracked { OnOk result (IsCracked self.new range) }
@@ -180,8 +181,8 @@ impl Store {
         Carrying { inside, near }
     }
 
-    /// Takes the column's last row into the hand. Each bound after the row moves down by one. O(log bounds), and
-    /// the bounds at that place; takes no memory.
+    /// Takes the column's last row into the hand. Each bound after the row moves down by one. O(log bounds + bounds
+    /// at that place); takes no memory.
     pub fn lift_last(self) -> Carrying
         requires { 0 < length self.column }
         ensures after { result ≡ lifted_last self }
@@ -202,7 +203,8 @@ impl Store {
         (self.edge(range.high()) - self.edge(range.low())) as u64
     }
 
-    /// The place at which the rows at or above the bound begin. O(log bounds).
+    /// The place at which the rows at or above the bound begin. The bound must be in the index or at an end of the
+    /// partition's keys. O(log bounds).
     pub(crate) fn edge(&self, bound: Bound) -> usize
         requires { Stands self.now bound.0 }
         ensures { result ≡ edge self.now bound.0 }
@@ -319,22 +321,24 @@ impl Store {
         self.inside.tally
     }
 
-    /// The place of the first pending insertion whose key is in the range. O(pending insertions).
+    /// The place of the first pending insertion whose key is in the range; `None` if there is none. O(pending
+    /// insertions).
     pub fn first_in(&self, range: KeyRange) -> Option<usize>
         ensures { Finds range (keys_at self.now.cells self.now.pending_in) 0 result }
     {
         self.inside.pending_in.first_in(range, &self.inside.arena)
     }
 
-    /// The place of the first pending deletion whose key is in the range. O(pending deletions).
+    /// The place of the first pending deletion whose key is in the range; `None` if there is none. O(pending
+    /// deletions).
     pub fn first_out(&self, range: KeyRange) -> Option<usize>
         ensures { Finds range (keys_at self.now.cells self.now.pending_out) 0 result }
     {
         self.inside.pending_out.first_in(range, &self.inside.arena)
     }
 
-    /// The place of the first pending insertion at or after `from` whose key is in the range. O(1) for each that it
-    /// passes.
+    /// The place of the first pending insertion at or after `from` whose key is in the range; `None` if there is
+    /// none. O(1) for each that it passes.
     pub fn next_in(&self, range: KeyRange, from: usize) -> Option<usize>
         ensures { Finds range (keys_at self.now.cells self.now.pending_in) from result }
     {
@@ -342,8 +346,8 @@ impl Store {
         self.inside.pending_in.next_in(range, from, arena)
     }
 
-    /// The place of the first pending deletion at or after `from` whose key is in the range. O(1) for each that it
-    /// passes.
+    /// The place of the first pending deletion at or after `from` whose key is in the range; `None` if there is
+    /// none. O(1) for each that it passes.
     pub fn next_out(&self, range: KeyRange, from: usize) -> Option<usize>
         ensures { Finds range (keys_at self.now.cells self.now.pending_out) from result }
     {
@@ -351,8 +355,8 @@ impl Store {
         self.inside.pending_out.next_in(range, from, arena)
     }
 
-    /// Makes the next search for a pending deletion start from this place, so that those removed at rising places
-    /// are passed over once. Contracts see no change.
+    /// Makes the next look-up of a pending deletion by its place start from this place, so that look-ups at rising
+    /// places take one pass in total. Contracts see no change.
     pub fn seek_out(&mut self, place: usize)
         requires { place < length self.old.pending_out }
         ensures { self.new ≡ self.old }

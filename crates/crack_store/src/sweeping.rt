@@ -27,9 +27,9 @@ use crack_index::{Mark, Placer};
 use crack_pending::PendingOut;
 use crack_row::{Bound, InnerBound, KeyNumber, KeyRange, Row};
 
-/// Carries the `count` pending insertions of a range, wherever doomed rows are; `first` is the first of them.
-/// Returns whether memory was found for them; if not, nothing has changed. For each of them O(pieces) without
-/// waiting for memory, and O(bounds).
+/// Carries the `count` pending insertions of a range, wherever doomed rows are; `first` is the place of the first
+/// of them. Returns whether memory was found for them; if not, nothing has changed. O(bounds), and O(pieces) for
+/// each of them.
 pub(crate) fn carry_by_sweeping(
     inside: &mut Inside,
     range: KeyRange,
@@ -64,8 +64,8 @@ pub(crate) fn carry_by_sweeping(
     true
 }
 
-/// Carries the pending insertions of a range; `first` is the first of them. There is room for them, and to list as
-/// many doomed rows.
+/// Carries the pending insertions of a range; `first` is the place of the first of them. There must be room for
+/// them, and to list as many doomed rows.
 fn sweep_rows(
     inside: &mut Inside,
     range: KeyRange,
@@ -135,7 +135,7 @@ fn sweep_rows(
     bury_all(inside, &doomed);
 }
 
-/// Moves the rows that came in past the last piece.
+/// Moves the incoming rows past the last piece.
 fn sweep_last(sweep: &mut Sweep)
     requires { IsSweepReady sweep.old }
     ensures { IsSweptTo sweep.old sweep.new }
@@ -209,8 +209,8 @@ impl<'a> Placer for Sweep<'a> {
 
     ghost places = { SweepTurns };
 
-    /// Moves the rows that came in past the piece below the bound, which rises by the number of rows that go on
-    /// from the piece. No row turns a piece that ends at or below the floor.
+    /// Moves the incoming rows past the piece below the bound, which rises by the number of rows that go on from
+    /// the piece, and returns the bound's new place. No row turns a piece that ends at or below the floor.
     fn place(&mut self, mark: Mark) -> usize {
         let Mark { bound, position } = mark;
         if position < self.start || self.from < position || bound.number() < self.low {
@@ -246,7 +246,7 @@ fn is_up_to(bound: InnerBound, floor: Bound) -> bool
     bound.bound() <= floor
 }
 
-/// Does what `sweep_piece` does, for a piece that `count` of the rows turn: if none does, nothing changes.
+/// Does what `sweep_piece` does, for a piece that `count` of the rows turn. If `count` is 0, nothing is moved.
 fn sweep_turned(
     column: &mut CrackerColumn,
     count: usize,
@@ -278,9 +278,9 @@ fn sweep_turned(
     sweep_piece(column, bounds, places, from, pending_out, arena)
 }
 
-/// Moves the rows from the place `from` on past the piece between two bounds, the higher of which may be none, and
-/// between two places. Returns how many of the piece's rows moved, and how many of the rows from `from` on go on
-/// from it.
+/// Moves the rows from the place `from` on past a piece, which is given by its bounds, `None` being the high bound
+/// of the last piece, and by the places where it begins and ends. Returns how many of the piece's rows moved, and
+/// how many of the rows from `from` on then go on from it.
 fn sweep_piece(
     column: &mut CrackerColumn,
     bounds: (KeyNumber, Option<InnerBound>),
@@ -378,8 +378,8 @@ fn count_going(
     count
 }
 
-/// Whether the row at the place goes on from a piece that ends at the bound `high`: it is below this bound, if there
-/// is one, and isn't doomed.
+/// Whether the row at the place goes on from a piece that ends at the bound `high` (`None` for the last piece): its
+/// key is below that bound, if there is one, and it isn't doomed.
 #[inline(always)]
 fn leaves(
     column: &CrackerColumn,

@@ -39,8 +39,8 @@ pub(crate) fn take_rows(
     append_taken(column, &taken, &known, arena);
 }
 
-/// Appends these rows to the column, in order, each with what is remembered of it, which is read only of rows of
-/// which it isn't known.
+/// Appends these rows to the column, in order, each with what is remembered of it. A row of which nothing is
+/// remembered is read.
 fn append_taken(
     column: &mut CrackerColumn,
     rows: &[Handle<Row>],

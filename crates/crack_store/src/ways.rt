@@ -21,8 +21,9 @@ pub enum CarryEnd {
 }
 
 impl Carrying {
-    /// Pushes the hand on until a rule ends its carry, and returns that rule. Has the result of repeated `push_on`,
-    /// in one walk over the bounds. O(log bounds), and the bounds at the places on its way; takes no memory.
+    /// Pushes the hand on until a rule ends its carry, and returns that rule. `ceiling` is `None` for a carry
+    /// without one. Has the result of repeated `push_on`, in one walk over the bounds. O(log bounds + bounds at the
+    /// places on its way); takes no memory.
     pub fn carry_up(&mut self, ceiling: Option<Bound>) -> CarryEnd
         ensures pushes { PushesOn (ceiling_of ceiling) self.old self.new }
         ensures ends { EndsBy (ceiling_of ceiling) result self.new }
@@ -41,8 +42,8 @@ impl Carrying {
         }
     }
 
-    /// Pulls the hand back as long as its own piece begins after the place. One walk over
-    /// the bounds: O(log bounds), and the bounds at the places on its way; takes no memory.
+    /// Pulls the hand back as long as its own piece begins after the place, in one walk over the bounds. O(log
+    /// bounds + bounds at the places on its way); takes no memory.
     pub fn pull_down(&mut self, place: usize)
         ensures pulls { PullsBack place self.old self.new }
         ensures ends { piece_start self.new.store (hand_key self.new) ≤ place }
@@ -64,7 +65,7 @@ impl Carrying {
         self.carry_end(ceiling)
     }
 
-    /// Pushes the hand on as long as its tag shows that no rule ends its carry.
+    /// Pushes the hand on as long as what the column remembers of its row shows that no rule ends its carry.
     #[inline(always)]
     fn ascend(&mut self, ceiling: Option<Bound>)
         ensures { PushesOn (ceiling_of ceiling) self.old self.new }
@@ -72,7 +73,7 @@ impl Carrying {
         self.near = ascend(&mut self.inside, ceiling);
     }
 
-    /// The first rule that ends the carry, if one does. O(1) on the way up, else O(log bounds).
+    /// The first rule that ends the carry; `None` if none does yet. O(1) after a step up, else O(log bounds).
     #[inline(always)]
     fn carry_end(&self, ceiling: Option<Bound>) -> Option<CarryEnd>
         ensures { MatchOption result (GoesOn (ceiling_of ceiling) self.now) (λ end. EndsBy (ceiling_of ceiling)
@@ -90,7 +91,7 @@ impl Carrying {
         None
     }
 
-    /// Whether the key of the hand is at or above the ceiling.
+    /// Whether the key of the hand is at or above the ceiling; false if there is no ceiling.
     fn is_at_ceiling(&self, ceiling: Option<Bound>) -> bool
         ensures at { IsTrue result → ¬ IsBelow (ceiling_of ceiling) (hand_key self.now) }
         ensures below { IsFalse result → IsBelow (ceiling_of ceiling) (hand_key self.now) }

@@ -24,7 +24,7 @@ next_state _ _ = Failed
 abbrev pub IsSole : Entry → List Receipt → Type 0
 IsSole entry named = (r : Receipt) × (named ≡ r ∷ []) × (entry_of r ≡ entry)
 
--- a state is right for the receipts of its place
+-- a state is right for the receipts that name its place, where this entry is
 abbrev pub IsState : PlaceState → Entry → List Receipt → Type 0
 IsState Unnamed entry named = named ≡ []
 IsState Met entry named = IsSole entry named
@@ -58,7 +58,8 @@ is_late_at (Some last) position = nat_le position last
 abbrev pub pair_cmp : ℕ × ℕ → ℕ × ℕ → Ordering
 pair_cmp x y = ordering_then (nat_cmp x.0 y.0) (nat_cmp x.1 y.1)
 
--- the look-up's last position decides for each receipt whether it is late after these receipts
+-- `last` gives, for each worker and partition, the position by which it is decided whether a receipt is late after
+-- these receipts
 abbrev pub Tracks : (ℕ × ℕ → Option ℕ) → List Receipt → Type 0
 Tracks last done = (r : Receipt) → list_any (λ earlier. is_late earlier r) done ≡ is_late_at (last (r.worker, r.part)) r.position
 

@@ -32,7 +32,8 @@ pub(crate) fn audit<J: Naming>(
     }
 }
 
-/// Checks that the receipts of all workers cover the lists of all partitions.
+/// Checks that the receipts of all workers cover the lists of all partitions. Refused as `cover` is, and with
+/// `OutOfMemory` if no memory is found.
 fn compare_lists<J: Naming>(
     alloc: Global,
     parts: &Vec<Witnessed<J>>,
@@ -50,7 +51,7 @@ fn compare_lists<J: Naming>(
     cover(alloc, lists.as_slice(), receipts.as_slice())
 }
 
-/// The partitions' lists of entries, one for each partition. All must have one. Refused if no memory is found.
+/// The partitions' lists of entries, by partition. Each partition must keep one. Refused if no memory is found.
 fn lists_in<'a, J: Naming>(
     alloc: Global,
     parts: &'a Vec<Witnessed<J>>,

@@ -52,7 +52,7 @@ pub fn a_fault_is_no_cover()
         position → ¬ Covers lists receipts }
 {}
 
-/// The states of all places before the first receipt: none is named.
+/// The states of all places before the first receipt: none is named. O(places). Refused if no memory is found.
 fn blank_states(alloc: Global, lists: &[&[Entry]]) -> Result<Vec<PlaceStates>, AllocError>
     ensures { IfOk result (λ v. IsCoverage (map (λ l. l.now) lists.now) v.items []) }
 {
@@ -63,7 +63,8 @@ fn blank_states(alloc: Global, lists: &[&[Entry]]) -> Result<Vec<PlaceStates>, A
     Ok(states)
 }
 
-/// Adds the receipts of all lists of receipts. Returns the place of the first receipt whose place doesn't exist.
+/// Records all receipts in the states of the places that they name. Returns the place that the first receipt
+/// without an existing place names, or `None` if there is no such receipt. O(receipts).
 fn add_lists(
     lists: &[&[Entry]],
     states: &mut Vec<PlaceStates>,
@@ -82,7 +83,7 @@ fn add_lists(
     stranger
 }
 
-/// Adds the receipts of one list. Returns the place of the first receipt whose place doesn't exist.
+/// Does what `add_lists` does, for one list of receipts.
 fn add_all(
     lists: &[&[Entry]],
     states: &mut Vec<PlaceStates>,
@@ -101,7 +102,8 @@ fn add_all(
     stranger
 }
 
-/// Adds one receipt. Returns its place if that place doesn't exist.
+/// Records one receipt in the state of the place that it names. If that place doesn't exist, returns it, and
+/// records nothing; else returns `None`. O(1).
 fn add(lists: &[&[Entry]], states: &mut Vec<PlaceStates>, receipt: &Receipt) -> Option<(u32, u64)>
     requires { (done : List Receipt) × IsCoverage (map (λ l. l.now) lists.now) states.old.items done }
     ensures coverage { (done : List Receipt) → IsCoverage (map (λ l. l.now) lists.now) states.old.items done →
@@ -126,7 +128,7 @@ fn is_right(lists: &[&[Entry]], receipt: &Receipt) -> Option<bool>
     is_right_in(lists.get(receipt.part as usize)?, receipt)
 }
 
-/// Whether a receipt holds the entry at its position in this list. `None` if there is none.
+/// Whether a receipt holds the entry at its position in this list. `None` if the list ends before that position.
 fn is_right_in(list: &[Entry], receipt: &Receipt) -> Option<bool>
     ensures { MatchOption result (slice_get list.now receipt.now.position ≡ None) (λ right. (entry : Entry) ×
         (slice_get list.now receipt.now.position ≡ Some entry) × Decides right (entry_of receipt.now ≡ entry)) }
@@ -144,7 +146,8 @@ fn is_entry(entry: &Entry, receipt: &Receipt) -> bool
         && entry.reply.is_same(&receipt.reply)
 }
 
-/// The first gap, as a partition and a position.
+/// The first gap, as a partition and a position: the first place that no receipt, several, or a wrong one names;
+/// `None` if there is no gap. O(places).
 fn first_gap(lists: &[&[Entry]], states: &Vec<PlaceStates>) -> Option<(u32, u64)>
     requires few { length lists.now ≤ 2 ^ 32 }
     requires coverage { (receipts : List Receipt) × IsCoverage (map (λ l. l.now) lists.now) states.now.items

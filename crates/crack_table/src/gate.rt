@@ -48,6 +48,7 @@ pub struct OpenGate;
 impl Gate for OpenGate {
     ghost may_refuse = { λ gate part turn. ⊥ };
 
+    /// Always true.
     fn inside(&self, _part: u32, _turn: u32) -> bool {
         true
     }

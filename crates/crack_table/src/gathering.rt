@@ -121,7 +121,9 @@ pub fn gather<J: Naming>(
     }
 }
 
-/// Takes the partitions out of their locks, and checks that they and the workers agree; otherwise puts them back.
+/// Takes the partitions out of their locks, and checks that they and the workers agree. Refused with `OutOfMemory`
+/// if no memory is found, and as `match_all` is; the partitions are then in locks again. `count` is the number of
+/// the table's workers.
 fn close<J: Naming>(
     alloc: Global,
     locks: &mut Vec<Mutex<Witnessed<J>>>,
@@ -162,7 +164,8 @@ fn close<J: Naming>(
     }
 }
 
-/// Checks that the partitions are the table's, and that they and the workers agree. Returns their totals.
+/// Checks that the partitions are the table's, and that they and the workers agree. Returns the partitions' totals.
+/// `count` is the number of the table's workers. Refused as `gather` is if none of them is missing.
 fn match_all<J: Naming>(
     alloc: Global,
     splits: &[Bound],
@@ -204,7 +207,8 @@ pub(crate) fn facts<J: Naming>(parts: &Vec<Witnessed<J>>)
     }
 }
 
-/// The place of the first partition that isn't as the table was opened, by `is_tables_at`.
+/// The place of the first partition that isn't the table's, or `None` if all are: its number isn't its place, or its
+/// keys, limits, number of workers or audit aren't those with which the table was opened.
 fn first_strange<J: Naming>(
     splits: &[Bound],
     limits: Limits,
@@ -271,7 +275,7 @@ fn missing_workers<J: Naming>(workers: &Vec<Worker<J>>, count: u64) -> u64
     missing
 }
 
-/// The bit, or 0 if the worker is present.
+/// `bit`, or 0 if `is_there`.
 fn bit_unless(is_there: bool, bit: u64) -> u64
     ensures is { result ≡ (if is_there then 0 else bit) }
     ensures small { result ≤ bit }

@@ -119,7 +119,7 @@ impl UnnamedTable {
     }
 }
 
-/// The first fault of an opening, in the order of `UnnamedTable::open`.
+/// The first fault of an opening, in the order of `UnnamedTable::open`; `None` if there is none.
 fn fault(splits: &[Bound], limits: Limits, workers: u64) -> Option<Refusal>
     ensures value { result ≡ table_fault splits.now limits workers }
     ensures good { result ≡ None → AreSplits splits.now × AreLimits limits × (0 < workers) × (workers ≤ 64) }
@@ -133,7 +133,8 @@ fn fault(splits: &[Bound], limits: Limits, workers: u64) -> Option<Refusal>
     limits_fault(limits)
 }
 
-/// Workers numbered from 0 to below `count`, for this many partitions. They keep receipts if there is an audit.
+/// `count` workers, numbered from 0, for this many partitions. They keep receipts if there is an audit. Refused if
+/// no memory is found.
 fn hire<J: Naming>(
     alloc: Global,
     front: &Front<J>,

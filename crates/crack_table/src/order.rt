@@ -11,9 +11,9 @@ use crack_witness::Receipt;
 use std::alloc::{AllocError, Global};
 use std::collections::BTreeMap;
 
-/// The place, a partition and a position, of the first receipt that isn't above an earlier one of its worker in its
-/// partition. `None` if there is no such receipt. O(receipts), up to a logarithm of the workers and partitions that
-/// they name.
+/// The place, a partition and a position, of the first receipt whose position isn't above that of an earlier one of
+/// its worker in its partition. `None` if there is no such receipt. O(receipts), up to a logarithm of the workers
+/// and partitions that they name. Refused if no memory is found.
 pub(crate) fn first_late(
     alloc: Global,
     receipts: &[&[Receipt]],
@@ -30,7 +30,8 @@ pub(crate) fn first_late(
     Ok(None)
 }
 
-/// As `first_late` for one list, after others. `last` maps each worker and partition to the last position so far.
+/// As `first_late` for one list, after others. `last` maps each worker and partition to the position of the last
+/// receipt so far.
 fn first_late_in(
     last: &mut BTreeMap<(u32, u32), u64>,
     list: &[Receipt],

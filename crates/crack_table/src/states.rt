@@ -34,7 +34,7 @@ impl Model for PlaceStates {
 }
 
 impl PlaceStates {
-    /// The states of `count` places that no receipt names: O(places).
+    /// The states of `count` places that no receipt names. O(places). Refused if no memory is found.
     pub(crate) fn new(alloc: Global, count: usize) -> Result<PlaceStates, AllocError>
         ensures { IfOk result (λ r. r ≡ replicate count Unnamed) }
     {
@@ -54,7 +54,7 @@ impl PlaceStates {
         };
     }
 
-    /// The first place whose state isn't `Met`: O(places).
+    /// The first place whose state isn't `Met`; `None` if all are. O(places).
     pub(crate) fn first_open(&self) -> Option<usize>
         ensures { MatchOption result ((n : ℕ) (m : PlaceState) → slice_get self.now n ≡ Some m → m ≡ Met)
             (IsOpenIn self.now) }

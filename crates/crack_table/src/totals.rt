@@ -17,7 +17,7 @@ pub(crate) struct Sums {
     pub(crate) held: u64,
 }
 
-/// The totals of the partitions' histories: O(partitions).
+/// The totals of the partitions' histories. O(partitions).
 pub(crate) fn sums_of<J: Naming>(parts: &Vec<Witnessed<J>>) -> Sums
     requires whole { All (λ (w : WitnessedState). IsWhole J.owner w) parts.now.items }
     requires sound { All (λ (w : WitnessedState). IsSound w.held) parts.now.items }

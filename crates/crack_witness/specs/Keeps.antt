@@ -17,7 +17,7 @@ use Rattle.crack_witness.specs.Rules.{OwnerState}
 abbrev pub HasRoomForOne : {X : Type 0} → Option (Vec X) → Type 0
 HasRoomForOne list = IfSome list (λ items. vec_len items < vec_capacity items)
 
--- P holds for one element
+-- P holds for at least one element
 abbrev pub Among : {X : Type 0} → (X → Type 0) → List X → Type 0
 Among P [] = ⊥
 Among P (x ∷ xs) = P x ⊎ Among P xs
@@ -30,7 +30,7 @@ HasOwner owner log = Among (λ (e : Event). e.owner ≡ owner) log
 abbrev pub HasWord : ℕ → List Event → Type 0
 HasWord k log = Among (λ (e : Event). e.word ≡ k) log
 
--- the word of this key in a book
+-- the word with this key in a book
 abbrev pub named : Book → ℕ → Named
 named b k = record { tracked = true; key = k; book = b }
 
@@ -63,7 +63,7 @@ pub record IsOwnerAt (b : Book) (owner : ℕ → ℕ) (part : ℕ) (o : OwnerSta
 abbrev pub AreOwners : Book → (ℕ → ℕ) → List OwnerState → Type 0
 AreOwners b owner os = (k : ℕ) (d : OwnerState) → k < length os → IsOwnerAt b owner k (slice_index_or os k d)
 
--- each count is the number of a worker's entries
+-- the count at a worker's number is the number of the worker's entries
 abbrev pub AreCounts : List ℕ → List Entry → Type 0
 AreCounts counts es = (worker : ℕ) → worker < length counts → slice_index_or counts worker 0 ≡ length (calls_by worker es)
 

@@ -1,6 +1,7 @@
 -- The rule of a book, and the results of its steps. Beside its events the book has cells, each with a flag. An event
--- names the cell whose flag the next event of its owner sets; a cell whose flag is set is at home. A pen is the right
--- to set the flag of one cell.
+-- names the cell whose flag the next event of its owner sets; a cell whose flag is set is at home. A pen is the
+-- right to set the flag of one cell. `v` and `w` are what a step's caller holds before and after it: the events
+-- that it has seen, and a pen.
 use Rattle.std.specs.Prelude.{ℕ, zero, suc, ◌≡◌, ◌<◌, List, [], ◌∷◌, ◌++◌, length, None, true}
 use mathlib.Core.List.{IsPrefix}
 use Rattle.logbook.specs.Pages.{Cell, cell, Step, View, Book, may_make}
@@ -32,7 +33,7 @@ pub record IsBookKept (cells : List Cell) (log : List Event) : Type 0 where
   pub chain : Chain cells log
   pub legal : AreHistories log
 
--- the first event of a word, which has no owner yet
+-- the first event at a word: the word has no owner yet, and the event no entry
 abbrev pub place : ℕ → Event
 place k = record { owner = 0; next = 0; word = k; entry = None }
 

@@ -73,7 +73,8 @@ pub record IsNewAt (owner : ℕ → ℕ) (workers : ℕ) (audited : Bool) (part 
   pub empty : history_of (owner part) w.log ≡ []
   pub entries_are : w.entries ≡ empty_list audited
 
--- these partitions without an entry, numbered in order from `number`
+-- these are witnessed partitions without an entry, numbered in order from `number`, one for each partition of the
+-- list
 abbrev pub AreNewFrom : (ℕ → ℕ) → ℕ → Bool → ℕ → List Part → List WitnessedState → Type 0
 AreNewFrom owner workers audited number [] [] = Unit {0}
 AreNewFrom owner workers audited number (p ∷ ps) (w ∷ ws) = IsNewAt owner workers audited number p w × AreNewFrom owner workers audited (number + 1) ps ws
@@ -141,9 +142,10 @@ replies_at a part = slice_index_or a.counts part 0
 abbrev pub KnowsHistory : (ℕ → ℕ) → WorkerState → ℕ → WitnessedState → Type 0
 KnowsHistory owner a part w = (w.part ≡ part) × IsInStep owner w a.worker (replies_at a part)
 
--- Why a worker that asks partition `part` may be refused by the partition that is passed: `NoSuchPartition` if it
--- knows of none with this number; `StrangeReceipt`, with the number and the number of its replies there, if the
--- partition doesn't know it; otherwise `OutOfMemory`, or as the partition refuses the command.
+-- Why a worker that asks partition `part` may be refused by the partition that is passed: `NoSuchPartition` if the
+-- worker knows of none with this number; `StrangeReceipt`, with `part` and the number of the worker's replies
+-- there, if the partition has another number, or another count of the worker's entries; otherwise `OutOfMemory`, or
+-- as the partition refuses the command.
 abbrev pub MayRefuseAt : (ℕ → ℕ) → WitnessedState → ℕ → Command → WorkerState → Refusal → Type 0
 MayRefuseAt owner w part command a e =
     ((e ≡ NoSuchPartition) × (length a.fronts ≤ part))

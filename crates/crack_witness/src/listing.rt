@@ -16,7 +16,7 @@ use std::alloc::{AllocError, Global};
 /// being copied, and its unused part takes no memory.
 const FIRST_ITEMS: usize = 2048;
 
-/// An empty list, if there is an audit. Takes no memory.
+/// An empty list if there is an audit, else `None`. Takes no memory.
 pub(crate) fn list_for<T: Drop>(alloc: Global, is_audited: bool) -> Option<Vec<T>>
     ensures { listed result ≡ empty_list is_audited }
 {
@@ -28,8 +28,8 @@ pub(crate) fn list_for<T: Drop>(alloc: Global, is_audited: bool) -> Option<Vec<T
 }
 
 /// Answers a command as `Partition::apply` does, and adds the entry to the partition's list and the receipt to the
-/// worker's, if there are such lists. Costs O(1), amortised, beyond `apply`, and the copies of a select's list.
-/// Memory is allocated after the partition's own refusals and before anything changes.
+/// worker's, if there are such lists. Costs O(1), amortised, beyond `apply`, and two copies of a select's list.
+/// Refused as `apply` is, and with `OutOfMemory` if no memory is found for these; then nothing is added to a list.
 pub(crate) fn apply_listed(
     partition: &mut Partition,
     entries: &mut Option<Vec<Entry>>,
@@ -89,8 +89,8 @@ pub(crate) fn apply_listed(
     Ok(copies.reply)
 }
 
-/// Makes room for the entry and the receipt of a command, unless the partition refuses the command. Returns how many
-/// commands the partition accepted before.
+/// Makes room for the entry and the receipt of a command, and returns how many commands the partition has accepted
+/// before. Refused as the partition would refuse the command, or with `OutOfMemory` if no memory is found.
 fn make_room(
     partition: &Partition,
     entries: &mut Option<Vec<Entry>>,
@@ -112,7 +112,7 @@ fn make_room(
     Ok(partition.accepted())
 }
 
-/// Makes room for one more item in a list, if there is a list: O(1), amortised. Refused if no memory is found.
+/// Makes room for one more item in a list, if there is a list. O(1), amortised. Refused if no memory is found.
 pub(crate) fn reserve<T: Drop>(list: &mut Option<Vec<T>>) -> Result<(), AllocError>
     ensures same { listed list.new ≡ listed list.old }
     ensures room { OnOk result (HasRoomForOne list.new) }

@@ -75,7 +75,8 @@ impl<J: Naming> Model for Witnessed<J> {
 }
 
 impl<J: Naming> Witnessed<J> {
-    /// A partition that has answered nothing, and its scribe; with an audit also an empty list of its entries.
+    /// A partition that has answered nothing, with its scribe and a count of entries for each worker; with an audit
+    /// also an empty list of its entries. Refused if no memory is found.
     pub(crate) fn new(
         alloc: Global,
         partition: Partition,
@@ -124,7 +125,7 @@ impl<J: Naming> Witnessed<J> {
         self.answered.len()
     }
 
-    /// The list of the partition's entries since it was opened, if there is an audit.
+    /// The list of the partition's entries since it was opened; `None` without an audit.
     pub fn entries(&self) -> Option<&[Entry]>
         ensures { MatchOption result (self.now.entries ≡ None) (λ list. self.now.entries ≡ Some list.now) }
     {
@@ -150,7 +151,7 @@ impl<J: Naming> Witnessed<J> {
         self.partition.facts();
     }
 
-    /// How many of a worker's entries the history has: O(1). `None` if this isn't a worker of the table.
+    /// How many of a worker's entries the history has. `None` if this isn't a worker of the table. O(1).
     pub fn answered(&self, worker: u32) -> Option<u64>
         ensures some { IfSome result (λ n. (worker < self.now.workers) ×
             (n ≡ length (calls_by worker (history_of (J.owner self.now.part) self.now.log)))) }
@@ -272,7 +273,7 @@ impl<J: Naming> Witnessed<J> {
     }
 }
 
-/// The count at an index, if there is one.
+/// The count at the index `place`; `None` if there is no such index.
 pub(crate) fn count_at(counts: &[u64], place: u32) -> Option<u64>
     ensures some { IfSome result (λ n. (place < length counts.now) × (n ≡ slice_index_or counts.now place 0)) }
     ensures none { place < length counts.now → result ≢ None }
@@ -284,7 +285,7 @@ pub(crate) fn count_at(counts: &[u64], place: u32) -> Option<u64>
     }
 }
 
-/// Whether `count` is the count at an index.
+/// Whether there is a count at the index `place`, and it is `count`.
 fn is_at(counts: &[u64], place: u32, count: u64) -> bool
     ensures { IsTrue result ↔ ((place < length counts.now) × (slice_index_or counts.now place 0 ≡ count)) }
 {

@@ -72,7 +72,7 @@ impl<J: Naming> Model for Worker<J> {
 
 impl<J: Naming> Worker<J> {
     /// A worker that has asked nothing yet, with this number, for this many partitions. It keeps receipts if there
-    /// is an audit.
+    /// is an audit. Refused if no memory is found.
     pub fn new(
         alloc: Global,
         number: u32,
@@ -110,7 +110,8 @@ impl<J: Naming> Worker<J> {
         self.number
     }
 
-    /// The number of the worker's replies from all partitions: O(partitions). With an audit it has as many receipts.
+    /// The number of the worker's replies from all partitions. With an audit it has as many receipts.
+    /// O(partitions).
     pub fn replies(&self) -> u64
         ensures all { result ≡ replies_to self.now }
         ensures receipts { IfSome self.now.receipts (λ receipts. length receipts ≡ result) }
@@ -128,7 +129,7 @@ impl<J: Naming> Worker<J> {
         }
     }
 
-    /// Makes room for one receipt if there is an audit: O(1), amortised. Refused if no memory is found.
+    /// Makes room for one receipt if there is an audit. O(1), amortised. Refused if no memory is found.
     pub fn reserve(&mut self) -> Result<(), AllocError>
         ensures { self.new ≡ self.old }
     {
@@ -249,7 +250,7 @@ impl<J: Naming> Worker<J> {
         self.counts_agree(witnessed)
     }
 
-    /// The number of the worker's replies from a partition, or 0 if it knows of no such partition: O(1).
+    /// The number of the worker's replies from a partition, or 0 if it knows of no such partition. O(1).
     pub(crate) fn replies_of(&self, part: u32) -> u64
         ensures { result ≡ replies_at self.now part }
     {
@@ -276,7 +277,7 @@ impl<J: Naming> Worker<J> {
     }
 }
 
-/// The sum of counts: O(counts).
+/// The sum of the counts. O(counts).
 fn sum_of(counts: &[u64]) -> u64
     requires { sum_by (λ (n : ℕ). n) counts.now < 2 ^ 64 }
     ensures { result ≡ sum_by (λ (n : ℕ). n) counts.now }

@@ -80,6 +80,7 @@ impl<'a, R: Wait, G: Gate, J: Naming> Desk for WorkerDesk<'a, R, G, J> {
     ghost leads = { λ d call e. (e.table.now ≡ d.table.now) × (e.gate.now ≡ d.gate.now) × table_leads d.table.now
         (λ part. AsksTable J.owner d.table.now (G.may_refuse d.gate.now part) part) d.worker call e.worker };
 
+    /// Asks partition `part` as `Table::ask` does.
     fn ask(&mut self, part: u32, command: Command, policy: Policy) -> Result<Reply, Refusal>
         // The worker asks its table. The reply ends the partition's one history, as far as the worker now sees it.
         ensures asks { AsksTable J.owner self.old.table.now (G.may_refuse self.old.gate.now part) part command
@@ -91,6 +92,7 @@ impl<'a, R: Wait, G: Gate, J: Naming> Desk for WorkerDesk<'a, R, G, J> {
         self.table.ask(self.rt, self.gate, &mut self.worker, part, command, policy)
     }
 
+    /// Makes a checkpoint as `Table::checkpoint` does.
     fn checkpoint(&mut self, part: u32) -> Result<u64, Refusal>
         // Makes a checkpoint of a partition for all workers. Its history stays whole.
         ensures folds { AnswersAt self.old.table.now part (λ e. ⊥) result }
@@ -100,24 +102,28 @@ impl<'a, R: Wait, G: Gate, J: Naming> Desk for WorkerDesk<'a, R, G, J> {
         self.table.checkpoint(self.rt, part)
     }
 
+    /// The layout of a partition, as `Table::layout` reads it.
     fn layout(&self, part: u32) -> Result<Layout, Refusal>
         ensures looks { LooksAt self.now.table.now part result }
     {
         self.table.layout(self.rt, part)
     }
 
+    /// The statistics of a partition, as `Table::statistics` reads them.
     fn statistics(&self, part: u32) -> Result<Statistics, Refusal>
         ensures measures { MeasuresAt self.now.table.now part result }
     {
         self.table.statistics(self.rt, part)
     }
 
+    /// `None`: this desk by itself belongs to no server.
     fn service(&self) -> Option<Traffic>
         ensures none { result ≡ None }
     {
         None
     }
 
+    /// The table's splits. Takes no lock.
     fn splits(&self) -> &[Bound] {
         self.table.splits()
     }

@@ -10,9 +10,9 @@ ghost use Rattle.crack_worker_desk.specs.Leads.{table_leads, answers_in, receipt
 
 use crack_table::Gate;
 
-/// States that by any calls at a worker's desk with this gate a worker that keeps receipts gains those of exactly the
-/// answered commands, in order, each with its partition and its reply. A worker that keeps none gains none. Does
-/// nothing.
+/// States what any calls at a worker's desk with this gate add to the worker's receipts: one for each answered
+/// command, in order, with its partition and its reply, and no other. A worker that keeps no receipts gains none.
+/// Does nothing.
 pub fn answers_are_receipts<G: Gate>(gate: &G)
     ensures { (owner : ℕ → ℕ) (table : TableState) (calls : List Call) (old new : WorkerState) →
         Calls (table_leads table (λ part. AsksTable owner table (G.may_refuse gate.now part) part)) old calls new →

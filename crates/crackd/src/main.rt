@@ -43,7 +43,8 @@ fn words(rt: &HostRuntime) -> io::Result<Vec<String>> {
     Ok(words)
 }
 
-/// Answers the statements of standard input on standard output.
+/// Answers the statements of standard input over a new table, on standard output. Refused if the table can't be
+/// opened or the session is cut off.
 fn script(rt: &HostRuntime, opening: &Opening) -> Result<(), Refusal> {
     let mut core = Core::open_with(rt.alloc(), opening.splits.as_slice(), opening.limits)?;
     let served = serve_input(rt, &mut core, opening.policy);
@@ -51,7 +52,7 @@ fn script(rt: &HostRuntime, opening: &Opening) -> Result<(), Refusal> {
     served
 }
 
-/// Answers the statements of standard input over a core, on standard output.
+/// Answers the statements of standard input over a core, on standard output. Refused if the session is cut off.
 fn serve_input(rt: &HostRuntime, core: &mut Core, policy: Policy) -> Result<(), Refusal> {
     let mut reader = Watched::new(rt.stdin());
     let mut writer = Watched::new(rt.stdout());
@@ -61,7 +62,8 @@ fn serve_input(rt: &HostRuntime, core: &mut Core, policy: Policy) -> Result<(), 
     }
 }
 
-/// Loads the CSV records of standard input, and writes the rows to standard output.
+/// Loads the CSV records of standard input into a new table, and writes its rows to standard output. Refused if the
+/// table can't be opened, and as the load or the export is.
 fn csv(rt: &HostRuntime, opening: &Opening) -> Result<(), Refusal> {
     let mut core = Core::open_with(rt.alloc(), opening.splits.as_slice(), opening.limits)?;
     let copied = copy_csv(rt, &mut core, opening.policy);
@@ -69,7 +71,8 @@ fn csv(rt: &HostRuntime, opening: &Opening) -> Result<(), Refusal> {
     copied
 }
 
-/// Loads standard input into a core, and writes the core's rows to standard output.
+/// Loads standard input into a core, and writes the core's rows to standard output. Refused as the load or the
+/// export is.
 fn copy_csv(rt: &HostRuntime, core: &mut Core, policy: Policy) -> Result<(), Refusal> {
     let mut reader = Watched::new(rt.stdin());
     if let Err(fault) = load_csv(core, policy, &mut reader) {
@@ -82,7 +85,8 @@ fn copy_csv(rt: &HostRuntime, core: &mut Core, policy: Policy) -> Result<(), Ref
     }
 }
 
-/// Lets workers serve the lines of standard input. They keep receipts if an audit is requested.
+/// Lets workers serve the lines of standard input. They keep receipts if an audit is requested. Refused as
+/// `run_batch` is.
 fn batch<H: Threads + Wait + Sync>(
     handle: &H,
     rt: &HostRuntime,
@@ -106,7 +110,8 @@ fn batch<H: Threads + Wait + Sync>(
     )
 }
 
-/// Lets workers serve connections to a port. They keep receipts if an audit is requested.
+/// Lets workers serve connections to a port. They keep receipts if an audit is requested. Refused as
+/// `UnnamedTable::open` is, and then as `serve_named` is.
 fn serve_port<H: Threads + Wait + Net<Listener = TcpListener, Stream = TcpStream> + Sync>(
     handle: &H,
     rt: &HostRuntime,
@@ -124,7 +129,8 @@ fn serve_port<H: Threads + Wait + Net<Listener = TcpListener, Stream = TcpStream
     serve_named::<Brand, H>(handle, rt, service, table)
 }
 
-/// Names the table's book `J`, opens the table, and lets its workers serve connections.
+/// Opens the table under the name `J`, which matters only to proofs, and lets its workers serve connections.
+/// Refused if no memory is found, and as `listen` and `run_service` are.
 fn serve_named<
     J: Naming + Send + Sync,
     H: Threads + Wait + Net<Listener = TcpListener, Stream = TcpStream> + Sync,
@@ -155,7 +161,8 @@ fn serve_named<
     }
 }
 
-/// The number of workers of a server: by default the number of processors, at most `MOST_WORKERS`.
+/// The number of workers of a server: by default the number of processors, at most `MOST_WORKERS`, or 1 if that
+/// isn't known.
 fn workers_of<H: Threads>(handle: &H, service: &Service) -> u64 {
     match service.workers {
         Some(workers) => workers,
@@ -187,7 +194,7 @@ fn has_upkeep(opening: &Opening) -> bool {
     matches!(opening.limits.upkeep, Upkeep::Automatic)
 }
 
-/// The host of a server: writes notices as lines to standard error.
+/// The host of a server: writes notices as lines to standard error, unless it is quiet.
 #[derive(Drop)]
 struct Console<'a> {
     rt: &'a HostRuntime,
@@ -232,7 +239,7 @@ impl<'a> Host for Console<'a> {
 }
 
 impl<'a> Console<'a> {
-    /// The time of day, in seconds, or the first second of 1970 if the clock can't be read.
+    /// The present date and time, in whole seconds, or the first second of 1970 if the clock can't be read.
     fn time(&self) -> Timestamp {
         let seconds = match self.rt.since_1970() {
             Ok(time) => i64::try_from(time.as_secs()).unwrap_or(0),
@@ -242,7 +249,8 @@ impl<'a> Console<'a> {
     }
 }
 
-/// Listens on the host's port of 127.0.0.1, and reports the port.
+/// Listens on the host's port of 127.0.0.1, and reports the port to the writer and the host. Refused with
+/// `ReadFault` if the port can't be bound, and with `WriteFault` if the writer fails.
 fn listen<H: Net<Listener = TcpListener, Stream = TcpStream>, W: Write>(
     handle: &H,
     host: &Console<'_>,
@@ -256,7 +264,7 @@ fn listen<H: Net<Listener = TcpListener, Stream = TcpStream>, W: Write>(
     Ok(listener)
 }
 
-/// Writes the port on which the server listens.
+/// Writes the port on which the server listens. Refused with `WriteFault` if the writer fails.
 fn announce<W: Write>(port: u16, writer: &mut W) -> Result<(), Refusal> {
     let line = writeln!(writer, "listening {port}");
     if line.is_err() || writer.flush().is_err() {
@@ -280,7 +288,7 @@ fn run_request<H: Threads + Wait + Net<Listener = TcpListener, Stream = TcpStrea
     }
 }
 
-/// Writes a refusal to standard error, followed by its cause if `in_words`.
+/// Writes a refusal to standard error, followed by its cause if `in_words`. Returns the exit status of a failure.
 fn complain(rt: &HostRuntime, refusal: Refusal, in_words: bool) -> ExitCode {
     let _ = if in_words {
         eprintln!(rt; "crackd: {refusal}: {}", refusal.cause())
@@ -290,6 +298,7 @@ fn complain(rt: &HostRuntime, refusal: Refusal, in_words: bool) -> ExitCode {
     ExitCode::FAILURE
 }
 
+/// Runs the request of the command line. The exit status is 1 if it is refused, and 2 if there is no valid request.
 fn main(rt: HostRuntime) -> ExitCode {
     let (request, in_words) = request(&rt);
     match request {

@@ -39,7 +39,7 @@ abbrev pub PiecesIn : List PieceSize → List ℕ → List ℕ → Type 0
 PiecesIn pieces lows sizes = (k : ℕ) (piece : PieceSize) → slice_get pieces k ≡ Some piece → k < length lows →
     (piece.low.0 ≤ GREATEST_KEY → slice_index_or lows k 0 ≡ piece.low.0) × (slice_index_or sizes k 0 ≡ piece.size)
 
--- the return value of a call: 0, or the number of its refusal
+-- the return value of a call that was made: 0 if it was answered, else the number of its refusal
 abbrev pub status_of : Option Refusal → ℕ
 status_of refusal = option_map_or code_of refusal 0
 

@@ -40,7 +40,7 @@ impl Handle {
         Handle::of_parts(Parts::of(core))
     }
 
-    /// Takes the table out of the handle, which then holds none.
+    /// Takes the table out of the handle, which must hold one and then holds none.
     pub fn take(&mut self, alloc: Global) -> Box<Core>
         requires { self.old.is_open ≡ true }
         ensures value { result.value ≡ self.old.core }
@@ -60,6 +60,7 @@ impl Handle {
         }
     }
 
+    /// A handle that holds the table of a taken-apart box.
     fn of_parts(parts: Parts<Core, Global>) -> Handle
         ensures { (result.is_open ≡ true) × (result.core ≡ parts.value) }
     {
@@ -70,6 +71,7 @@ impl Handle {
         }
     }
 
+    /// The box of the handle's table, taken apart. The handle must hold a table.
     fn into_parts(self, alloc: Global) -> Parts<Core, Global>
         requires { self.is_open ≡ true }
         ensures { result.value ≡ self.core }
@@ -81,7 +83,7 @@ impl Handle {
         }
     }
 
-    /// Borrows the table that the handle holds.
+    /// Borrows the table of the handle, which must hold one.
     pub fn core(&mut self) -> &mut Core
         requires { self.old.is_open ≡ true }
         ensures* writes_back { sem 𝓛 (core_follows self.entry result) }

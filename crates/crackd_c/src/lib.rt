@@ -26,8 +26,9 @@ use status::{
 };
 use std::alloc::Global;
 
-/// Opens a table in a handle that holds none. Its partitions make the checkpoints that are due, and free the cells
-/// of deleted rows once no cell is free.
+/// Opens a table with these splits, and with these limits for each partition, in a handle that holds none. The
+/// partitions make the checkpoints that are due, and free the cells of deleted rows once no cell is free. Refused
+/// as `opening::open` is.
 #[unsafe(no_mangle)]
 pub extern "C" fn crackd_open(
     alloc: Global,
@@ -171,7 +172,7 @@ pub extern "C" fn crackd_update(
     }
 }
 
-/// Counts the rows whose keys are `first` to `last`, both included.
+/// Counts the rows whose keys are `first` to `last`, both included, by the policy with this number (`policy_of`).
 #[unsafe(no_mangle)]
 pub extern "C" fn crackd_count(
     handle: &mut Handle,
@@ -230,8 +231,8 @@ pub extern "C" fn crackd_sum(
     }
 }
 
-/// Lists the rows whose keys are `first` to `last`, both included, as far as the lists have room, and writes how
-/// many rows the range has.
+/// Lists the rows whose keys are `first` to `last`, both included, by partition and then by rising serial, as far as
+/// the four lists have room, and writes how many rows the range has. The lists must have the same length.
 #[unsafe(no_mangle)]
 pub extern "C" fn crackd_select(
     handle: &mut Handle,
@@ -272,8 +273,8 @@ pub extern "C" fn crackd_select(
     }
 }
 
-/// Writes the layout of a partition: its totals, and the least key and the size of each piece as far as the lists
-/// have room.
+/// Writes the layout of a partition: its totals, and the least key and the size of each piece as far as the two
+/// lists have room. The lists must have the same length.
 #[unsafe(no_mangle)]
 pub extern "C" fn crackd_layout(
     handle: &mut Handle,
@@ -332,8 +333,8 @@ pub extern "C" fn crackd_accepted(handle: &mut Handle, accepted: &mut u64) -> u3
     ANSWERED
 }
 
-/// Inserts a row for each key and payload, and writes the row numbers. Stops at the first refusal, as all calls
-/// with lists do.
+/// Inserts a row for each key and payload, and writes the row numbers. As in all calls with lists, these must have
+/// the same length; the call stops at the first refusal, and `done` gets the number of rows or ranges before it.
 #[unsafe(no_mangle)]
 pub extern "C" fn crackd_insert_many(
     handle: &mut Handle,

@@ -10,8 +10,8 @@ use crack_core::Core;
 use crack_row::{Bound, BoundNumber, Limits, Refusal};
 use std::alloc::Global;
 
-/// Opens a table with these splits, in a box. Refused as `Core::open_with` is, and with `OutOfMemory` if the list
-/// of bounds or the box finds no memory.
+/// Opens a table with these splits and limits, in a box. Refused as `Core::open_with` is, and with `OutOfMemory` if
+/// no memory is found for the list of bounds or the box.
 pub fn open(alloc: Global, splits: &[u64], limits: Limits) -> Result<Box<Core>, Refusal>
     ensures opened { IfOk result (λ core. (core.value.splits ≡ bounds_at splits.now) × (core.value.limits ≡ limits)) }
     ensures fresh { IfOk result (λ core. All (λ (part : Part). table_of part ≡ fresh_table) core.value.parts) }

@@ -21,7 +21,7 @@ pub const LENGTHS_DIFFER: u32 = 103;
 /// The status of a call with a number that is no policy's.
 pub const NO_SUCH_POLICY: u32 = 104;
 
-/// The policy with this number: 0 is complete, 1 gradual, 2 ripple, 3 auto, and other numbers are none.
+/// The policy with this number: 0 is complete, 1 gradual, 2 ripple, 3 auto. `None` for any other number.
 pub fn policy_of(number: u32) -> Option<Policy>
     ensures { result ≡ policy_at number }
 {

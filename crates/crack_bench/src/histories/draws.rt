@@ -66,7 +66,7 @@ impl Draws {
         mixed ^ (mixed >> 31)
     }
 
-    /// The next number below this bound.
+    /// The next random number below `most`, or 0 if `most` is 0.
     fn below(&mut self, most: u32) -> u32 {
         ((self.number() >> 32) as u32) % most.max(1)
     }
@@ -106,7 +106,7 @@ impl Draws {
         }
     }
 
-    /// Notes the serial of a row that was inserted into a partition.
+    /// Notes the serial of a row that was inserted into a partition, if the answer has one.
     pub fn learn(&mut self, part: u32, answer: &Result<Reply, Refusal>) {
         if let (Some(last), Ok(Reply::Placed(serial))) = (
             self.last.get_mut(part as usize),
@@ -116,6 +116,7 @@ impl Draws {
         }
     }
 
+    /// A random key of the partition; one in 32 is of any partition.
     fn key(&mut self, part: u32) -> Key {
         let part = match self.below(32) {
             0 => self.below(PARTS as u32),

@@ -13,7 +13,7 @@ const REFUSED: u32 = 50;
 /// partition's lock; it consents when it is called again.
 const GIVES_WAY: u32 = 3;
 
-/// How often a thread that waits for the others to begin yields, at most.
+/// The most times that a thread yields while it waits for the others to begin.
 const PATIENCE: u32 = 100000;
 
 /// A gate that numbers the commands of each partition. By this number it consents at once, or yields to other threads

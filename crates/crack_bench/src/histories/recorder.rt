@@ -22,7 +22,8 @@ pub struct Recorder<'a> {
 }
 
 impl Recorder<'_> {
-    /// Asks a command, and records it with its answer.
+    /// Asks a command, and records it with its answer. Refused with `WriteFault` if no memory is found for the
+    /// text.
     fn ask<A: Works>(
         &mut self,
         worker: &mut A,

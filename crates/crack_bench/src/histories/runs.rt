@@ -30,7 +30,8 @@ pub struct Plan {
 /// A worker of the table, and its questions.
 type Asking<'a, R, J> = Hand<Seated<'a, R, Restless, J>, Recorder<'a>>;
 
-/// Has the workers ask a table with an audit, and writes their replies and the histories.
+/// Has the workers ask a table with an audit, and writes their replies and the histories. Refused if the table
+/// can't be opened, if no memory is found, as the gathering is, and if the writer fails.
 pub fn carry_out<R: Host, W: Write>(
     rt: &R,
     plan: Plan,
@@ -45,7 +46,8 @@ pub fn carry_out<R: Host, W: Write>(
     carry_out_named::<Brand, R, W>(rt, plan, table, writer)
 }
 
-/// Names the table's book `J`, opens the table, and carries out the plan. Refused as `carry_out` is.
+/// Opens the table under the name `J`, which matters only to proofs, and carries out the plan. Refused as
+/// `carry_out` is.
 fn carry_out_named<J: Naming + Send + Sync, R: Host, W: Write>(
     rt: &R,
     plan: Plan,
@@ -89,6 +91,7 @@ fn ask_and_write<J: Naming + Send + Sync, R: Host + Sync, W: Write>(
     }
 }
 
+/// Has the workers ask, each on a thread of its own, and writes their questions and answers.
 fn work<'a, J: Naming + Send + Sync, R: Host + Sync, W: Write>(
     rt: &'a R,
     gate: &'a Restless,

@@ -15,7 +15,7 @@ use std::io::Write;
 /// A text without rows, or the line of one row.
 type Text = ArrayVec<u8, LONGEST_TEXT>;
 
-/// The outcome of writing, as a refusal.
+/// Turns a failed write into the refusal `WriteFault`.
 pub fn written(line: io::Result<()>) -> Result<(), Refusal> {
     match line {
         Ok(()) => Ok(()),

@@ -35,7 +35,7 @@ fn measure_steps<R: Output>(
     Ok(())
 }
 
-/// Inserts this many rows with random keys, and keeps their handles in order.
+/// Inserts this many rows with random keys, and keeps their handles in order. Refused as `put` is.
 pub fn fill(
     arena: &mut Arena<Row>,
     handles: &mut Vec<Handle<Row>>,
@@ -65,8 +65,8 @@ fn put(arena: &mut Arena<Row>, handles: &mut Vec<Handle<Row>>, row: Row) -> Resu
     Ok(())
 }
 
-/// One step, by equal chances: inserts a row, reads the row of a random handle, or frees it. Inserts a row if there
-/// is no handle; frees nothing after `MOST_FREED` frees.
+/// One step, with equal chances: inserts a row with the serial `number`, or reads or frees the row of a random
+/// handle, which it returns. Inserts a row if there is no handle; frees nothing after `MOST_FREED` frees.
 fn step(
     arena: &mut Arena<Row>,
     handles: &mut Vec<Handle<Row>>,
@@ -94,7 +94,7 @@ fn step(
     Ok(arena.free(handles.swap_remove(at)))
 }
 
-/// Takes `count` steps. Returns a checksum of the rows that they read or freed.
+/// Takes `count` steps. Returns a checksum of the rows that they read or freed. Refused as `put` is.
 fn steps(
     arena: &mut Arena<Row>,
     handles: &mut Vec<Handle<Row>>,

@@ -47,6 +47,7 @@ fn fill_and_crack<R: Output>(
     measure_cracks(rt, column, arena)
 }
 
+/// Measures the first crack and the later ones, and writes their checksums.
 fn measure_cracks<R: Output>(rt: &R, column: &mut CrackerColumn, arena: &Arena<Row>) -> Outcome
     requires { Remembers arena.now.cells column.old.handles column.old.remembered }
 {

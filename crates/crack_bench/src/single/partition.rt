@@ -54,7 +54,7 @@ pub enum Keys {
     Below,
 }
 
-/// The numbers of a measurement, which says what they count.
+/// The numbers of a measurement. What they count depends on the measurement.
 #[derive(Clone, Copy)]
 pub struct Sizes {
     pub rows: u32,
@@ -82,7 +82,7 @@ pub struct Measured {
 }
 
 impl Measured {
-    /// A new partition that merges by this policy, with the first random numbers.
+    /// A new partition that merges by this policy, with the first random numbers. Refused if no memory is found.
     pub fn open(alloc: Global, policy: Policy, sizes: Sizes) -> Result<Measured, Refusal> {
         let numbers = Numbers { state: 11 };
         Ok(Measured {
@@ -97,13 +97,14 @@ impl Measured {
         })
     }
 
-    /// Lists the serials of the first rows.
+    /// Lists the serials of the first `Sizes::rows` rows as those that may be deleted.
     pub fn list_rows(&mut self, alloc: Global) -> Result<(), Refusal> {
         self.rows = (0..u64::from(self.sizes.rows)).collect(alloc)?;
         Ok(())
     }
 
-    /// Applies a command, and keeps the number in the reply.
+    /// Applies a command, keeps the number in the reply, and mixes a count or a sum into the checksum. Refused as
+    /// the partition refuses the command.
     fn apply(&mut self, command: Command) -> Result<(), Refusal> {
         self.last = number_of(&self.partition.apply(command, self.policy)?);
         if matches!(command, Command::Count(_) | Command::Sum(_)) {
@@ -112,7 +113,7 @@ impl Measured {
         Ok(())
     }
 
-    /// The range of query `at` in a series.
+    /// The range of the query with the number `at` in a series.
     fn range(&mut self, keys: Keys, at: u32) -> Result<KeyRange, Refusal> {
         let (low, width) = match keys {
             Keys::All => (0, GREATEST_BOUND),
@@ -148,7 +149,8 @@ impl Measured {
         Some(Serial(self.rows.swap_remove(at)))
     }
 
-    /// Deletes a random row of the list, inserts another, and replaces its serial in the list.
+    /// Deletes a random row of the list, inserts another, and replaces its serial in the list. Does nothing if the
+    /// list is empty.
     fn update(&mut self) -> Result<(), Refusal> {
         if self.rows.is_empty() {
             return Ok(());
@@ -164,7 +166,7 @@ impl Measured {
         Ok(())
     }
 
-    /// Asks question `at` in a series.
+    /// Asks the question with the number `at` in a series.
     fn ask(&mut self, ask: Ask, at: u32) -> Result<(), Refusal> {
         let command = match ask {
             Ask::Insert => insertion(self.numbers.word(), at),
@@ -183,7 +185,7 @@ impl Measured {
         self.apply(command)
     }
 
-    /// Asks question 0, question 1 .. of a series, `times` in number.
+    /// Asks the first `times` questions of a series, numbered from 0.
     pub fn repeat(&mut self, ask: Ask, times: u32) -> Result<(), Refusal> {
         'times: for at in 0..times {
             self.ask(ask, at)?;
@@ -191,7 +193,7 @@ impl Measured {
         Ok(())
     }
 
-    /// Makes this many batches of updates, and after each batch asks for the sum of a range.
+    /// Makes this many batches of `Sizes::second` updates, and after each batch asks for the sum of a range.
     pub fn update_in_batches(&mut self, batches: u32, keys: Keys) -> Result<(), Refusal> {
         'batches: for at in 0..batches {
             self.repeat(Ask::Update, self.sizes.second)?;

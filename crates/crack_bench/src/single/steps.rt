@@ -24,7 +24,9 @@ enum Times {
     OtherHalf,
     /// Once for each bound between `Sizes::first` pieces.
     Bounds,
+    /// `Sizes::first` times.
     First,
+    /// `Sizes::second` times.
     Second,
     /// A tenth of `Sizes::first`.
     Tenth,
@@ -35,6 +37,7 @@ enum Times {
 /// A step of a measurement of a partition.
 #[derive(Clone, Copy)]
 enum Step {
+    /// Asks this many times.
     Ask(Ask, Times),
     /// Asks this many times. Writes the time of each under this name.
     Each(Ask, Times, &'static str),
@@ -284,7 +287,7 @@ const FOLD: Kind = Kind {
     ],
 };
 
-/// The measurement with this name.
+/// The measurement with this name, or `None` if there is none.
 pub fn kind_of(name: &str) -> Option<Kind> {
     match name {
         "cold" => Some(COLD),
@@ -345,6 +348,7 @@ fn take<R: Output>(
     }
 }
 
+/// Takes a step that neither begins a part nor writes its time.
 fn carry_out<R: Output>(rt: &R, table: &mut Measured, step: Step) -> Outcome {
     match step {
         Step::Ask(ask, times) => Ok(table.repeat(ask, number_of(times, table.sizes))?),
@@ -398,11 +402,13 @@ fn number_of(times: Times, sizes: Sizes) -> u32 {
     }
 }
 
+/// Writes a result: its name and its number.
 fn write<R: Output>(rt: &R, name: &str, number: u64) -> Outcome {
     println!(rt; "{name} {number}")?;
     Ok(())
 }
 
+/// Writes the counts of the partition's merges.
 fn write_tally<R: Output>(rt: &R, partition: &Partition) -> Outcome {
     let did = partition.tally();
     let (put_in, taken_out, evicted) = (did.put_in, did.taken_out, did.evicted);
@@ -412,6 +418,7 @@ fn write_tally<R: Output>(rt: &R, partition: &Partition) -> Outcome {
     Ok(())
 }
 
+/// Takes the step `Next`.
 fn measure_next<R: Output>(rt: &R, table: &mut Measured) -> Outcome {
     let sum = table.sum;
     table.repeat(Ask::Count(Keys::All), 1)?;
@@ -420,6 +427,7 @@ fn measure_next<R: Output>(rt: &R, table: &mut Measured) -> Outcome {
     Ok(())
 }
 
+/// Takes the step `Checkpoint`.
 fn measure_checkpoint<R: Output>(rt: &R, table: &mut Measured, name: &str) -> Outcome {
     let start = Instant::now(rt)?;
     let entries = table.partition.checkpoint();

@@ -33,6 +33,7 @@ pub fn run<R: Host>(rt: &R, rows: u32, steps: u32) -> Outcome {
     Ok(())
 }
 
+/// Opens the partitions of one worker, without rows.
 fn opened(alloc: Global) -> Result<Vec<Partition>, Refusal> {
     let mut partitions = Vec::new(alloc);
     'parts: for part in 0..PARTS_EACH {

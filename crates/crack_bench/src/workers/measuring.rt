@@ -49,6 +49,7 @@ pub enum End {
 pub struct Run {
     pub workers: u32,
     pub sharing: Sharing,
+    /// How many rows are inserted for each partition.
     pub rows: u32,
     pub work: Work,
     pub end: End,
@@ -189,7 +190,7 @@ fn measure_threads<R: Host, A: Works + Send + Drop>(
     Ok(())
 }
 
-/// The total of the sums of the workers' steps.
+/// The total of the sums of the workers' steps, or the first refusal of a worker.
 fn sum_of<A>(hands: &[Hand<A, Mix>]) -> Result<u64, Refusal> {
     let mut total = 0u64;
     'hands: for hand in hands {
@@ -198,6 +199,7 @@ fn sum_of<A>(hands: &[Hand<A, Mix>]) -> Result<u64, Refusal> {
     Ok(total)
 }
 
+/// Counts all rows, and measures the steps of the first worker.
 fn measure_alone<R: Output, A: Works>(rt: &R, hands: &mut [Hand<A, Mix>], steps: u32) -> Outcome {
     let Some(hand) = hands.first_mut() else {
         return Ok(());
@@ -223,6 +225,7 @@ fn checkpoint_all<A: Works>(hands: &mut [Hand<A, Mix>], parts: u32) -> Result<()
 }
 
 /// Gathers the workers. Writes how long that took, before and after the partitions are dropped, and the totals.
+/// Refused as `gather` is.
 fn gather_all<J: Naming, R: Output>(rt: &R, table: Table<J>, workers: Vec<Worker<J>>) -> Outcome {
     let start = Instant::now(rt)?;
     match gather(rt.alloc(), table, workers) {

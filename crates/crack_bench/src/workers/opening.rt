@@ -22,7 +22,7 @@ pub fn run<R: Host>(rt: &R, is_audited: bool, run: Run) -> Outcome {
     }
 }
 
-/// Names the table's book `J`, opens the table, and carries out the run.
+/// Opens the table under the name `J`, which matters only to proofs, and carries out the run.
 fn run_named<J: Naming + Send + Sync, R: Host>(rt: &R, table: UnnamedTable, run: Run) -> Outcome
     requires { AreNames J.book J.owner table.opened }
 {
