@@ -43,7 +43,7 @@ EXAMPLES = {
     "crates/crack_core/src/cores.rt": ["Core"],
     "crates/crack_core/src/step.rt": ["Job", "Done"],
     "crates/crack_session/src/feeding.rt": ["Session"],
-    "crates/crack_session/src/session.rt": ["End"],
+    "crates/crack_session/src/session.rt": ["SessionEnd"],
     "crates/crack_session/src/desk.rt": ["Desk"],
     "crates/crack_table/src/opening.rt": ["UnnamedTable"],
     "crates/crack_table/src/table.rt": ["Table"],

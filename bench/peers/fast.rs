@@ -83,8 +83,8 @@ struct Cell {
 /// What merges did.
 #[derive(Clone, Copy, Default)]
 pub struct Tally {
-    pub put_in: u64,
-    pub taken_out: u64,
+    pub insertions: u64,
+    pub deletions: u64,
     pub evicted: u64,
     pub moved: u64,
     pub pulled: u64,
@@ -394,7 +394,7 @@ impl Fast {
 
     /// Takes the pending insertion of this spot into the hand.
     fn lift(&mut self, spot: usize) -> Hand {
-        self.tally.put_in += 1;
+        self.tally.insertions += 1;
         let slot = self.pending_in.take(spot);
         let Cell { key, payload, .. } = self.cells[slot as usize];
         Hand {
@@ -438,7 +438,7 @@ impl Fast {
 
     /// Frees a doomed row that is in no list.
     fn bury(&mut self, slot: u32) {
-        self.tally.taken_out += 1;
+        self.tally.deletions += 1;
         self.doomed.clear(slot);
         self.release(slot);
     }

@@ -126,7 +126,7 @@ impl Partition {
         match command {
             Command::Insert { key, payload } => {
                 let serial = self.next;
-                self.store.admit(Row {
+                self.store.insert(Row {
                     serial,
                     key,
                     payload,
@@ -379,8 +379,8 @@ fn load_named<T: Table>(table: &mut T, rows: u64, numbers: &mut Numbers) -> Vec<
 /// What the merges did, if that is counted.
 fn report_tally(table: &impl Table) {
     if let Some(did) = table.tally() {
-        let Tally { put_in, taken_out, evicted, moved, pulled } = did;
-        eprintln!("put_in {put_in}\ntaken_out {taken_out}\nevicted {evicted}\nmoved {moved}\npulled {pulled}");
+        let Tally { insertions, deletions, evicted, moved, pulled } = did;
+        eprintln!("put_in {insertions}\ntaken_out {deletions}\nevicted {evicted}\nmoved {moved}\npulled {pulled}");
     }
 }
 

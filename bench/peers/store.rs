@@ -53,7 +53,7 @@ impl Store {
     }
 
     /// Adds a row after the last pending insertion.
-    pub fn admit(&mut self, row: Row) {
+    pub fn insert(&mut self, row: Row) {
         self.serials.reserve(1);
         let handle = self.add(row);
         self.serials.insert(row.serial, handle);

@@ -5,7 +5,7 @@ use Rattle.std.proofs.lemmas.List.{get_or_default, get_or-set_same, get_or-set_o
 use Rattle.std.proofs.lemmas.List.Sums.{sum_by-cons, sum_by-set}
 use Rattle.std.proofs.lemmas.Bool.{cases_eq, cases_lt, lt-ltb, le-ltb, ltb-true, eqb-true, ne_eqb, true≢false}
 use Rattle.crack_arena.specs.declared.TheConstants.{MOST_CELLS}
-use Rattle.crack_arena.specs.Arena.{times, Handle, no_handle, empty_cell, cell_at, handle_for, put_in, set_at, freed_at, read, vacancy_at, IsWholeArena}
+use Rattle.crack_arena.specs.Arena.{times, Handle, no_handle, empty_cell, cell_at, handle_for, value_put, set_at, freed_at, read, vacancy_at, IsWholeArena}
 use Rattle.crack_arena.proofs.Times.{times-nil, times-cons, times_one, times_other, times_head, times_apart}
 use Rattle.crack_arena.specs.declared.cells.Cell.{Cell as Stored}
 use Rattle.crack_arena.specs.Links.{is_taken_word, next_after, chain, cell_of, cells_of, words_of}
@@ -221,7 +221,7 @@ module _ {T : Type 0} where
       by_test true e = absurd (true≢false (sym e))
       by_test false e = refl
 
-  pub put_filled : (stored : List (Stored T)) (k free freed spare : ℕ) (x s : Stored T) (v : T) → 0 < free → IsLinked (words_of stored) k free freed → x ≡ get_or stored k x → s ≡ record { word = record { slot = 16777215; generation = x.word.generation }; value = v } → put_in v (record { cells = cells_of stored; free = chain (words_of stored) k free; room = free + spare }) ≡ record { cells = cells_of (set stored k s); free = chain (words_of (set stored k s)) ((k + 1 + x.word.slot) % 16777216) (free - 1); room = free - 1 + spare }
+  pub put_filled : (stored : List (Stored T)) (k free freed spare : ℕ) (x s : Stored T) (v : T) → 0 < free → IsLinked (words_of stored) k free freed → x ≡ get_or stored k x → s ≡ record { word = record { slot = 16777215; generation = x.word.generation }; value = v } → value_put v (record { cells = cells_of stored; free = chain (words_of stored) k free; room = free + spare }) ≡ record { cells = cells_of (set stored k s); free = chain (words_of (set stored k s)) ((k + 1 + x.word.slot) % 16777216) (free - 1); room = free - 1 + spare }
   put_filled stored k zero freed spare x s v some sound found is = absurd (omega (arith, some))
   put_filled stored k (suc n) freed spare x s v some sound found is =
       let words = words_of stored in

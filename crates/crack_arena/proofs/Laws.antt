@@ -2,7 +2,7 @@
 use Rattle.std.proofs.Common.{◌≡◌, ◌⊎◌, ℕ, ◌+◌, ◌<◌, ◌≤◌, Bool, true, false, List, [], ◌∷◌, length, get_or, set, cond, eqb, Option, Some, None, is_some, refl, sym, ap, inl, inr, arith, length-set}
 use Rattle.std.proofs.lemmas.List.{get_or-set_same, get_or-set_other, get_or_past, get_or_append_left, length_push}
 use Rattle.std.proofs.lemmas.Bool.{cases_eq, cases_lt, ne_eqb, eqb-true, true≢false}
-use Rattle.crack_arena.specs.Arena.{Handle, Cell, Arena, empty_cell, cell_at, read, IsSpent, KeepsSpent, cells_with, put_in, set_at, freed_at, ArenaCall, Put, Set, Free, Reserve, after_call, after_calls}
+use Rattle.crack_arena.specs.Arena.{Handle, Cell, Arena, empty_cell, cell_at, read, IsSpent, KeepsSpent, cells_with, value_put, set_at, freed_at, ArenaCall, Put, Set, Free, Reserve, after_call, after_calls}
 
 module _ {T : Type 0} where
   -- what a handle reads is the value of its cell, which has its generation
@@ -65,8 +65,8 @@ module _ {T : Type 0} where
   IsSpent-cells_with v cells (n ∷ ns) h spent = IsSpent-set cells n _ h (omega arith) spent
 
   -- every call keeps a spent handle spent
-  pub KeepsSpent-put_in : (v : T) (a : Arena T) → KeepsSpent a.cells (put_in v a).cells
-  KeepsSpent-put_in v a h spent = IsSpent-cells_with v a.cells a.free h spent
+  pub KeepsSpent-value_put : (v : T) (a : Arena T) → KeepsSpent a.cells (value_put v a).cells
+  KeepsSpent-value_put v a h spent = IsSpent-cells_with v a.cells a.free h spent
 
   pub KeepsSpent-set_at : (v : T) (k : Handle) (a : Arena T) → is_some (read a.cells k) ≡ true → KeepsSpent a.cells (set_at v k a).cells
   KeepsSpent-set_at v k a reads h spent =
@@ -90,7 +90,7 @@ module _ {T : Type 0} where
       }
 
   pub KeepsSpent-after_call : (call : ArenaCall T) (a : Arena T) → KeepsSpent a.cells (after_call call a).cells
-  KeepsSpent-after_call (Put v) a h spent = KeepsSpent-put_in v a h spent
+  KeepsSpent-after_call (Put v) a h spent = KeepsSpent-value_put v a h spent
   KeepsSpent-after_call (Set k v) a h spent = by_test (is_some (read a.cells k)) refl
     where
       by_test : (b : Bool) → is_some (read a.cells k) ≡ b → IsSpent (cond b (set_at v k a) a).cells h

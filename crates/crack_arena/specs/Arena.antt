@@ -124,8 +124,8 @@ cells_with v cells [] = cells ++ record { generation = 0; value = Some v } ∷ [
 cells_with v cells (n ∷ ns) = slice_set cells n (record { generation = (cell_at cells n).generation; value = Some v })
 
 -- the arena after a value was put into the first free cell, or else into a new one
-abbrev pub put_in : {T : Type 0} → T → Arena T → Arena T
-put_in v a = record { cells = cells_with v a.cells a.free; free = drop 1 a.free; room = a.room - 1 }
+abbrev pub value_put : {T : Type 0} → T → Arena T → Arena T
+value_put v a = record { cells = cells_with v a.cells a.free; free = drop 1 a.free; room = a.room - 1 }
 
 -- the arena after the value of the handle's cell was replaced
 abbrev pub set_at : {T : Type 0} → T → Handle → Arena T → Arena T
@@ -148,7 +148,7 @@ pub data ArenaCall (T : Type 0) : Type 0 where
 
 -- the arena after a call, except for its room; a call whose handle reads nothing leaves it unchanged
 abbrev pub after_call : {T : Type 0} → ArenaCall T → Arena T → Arena T
-after_call (Put v) a = put_in v a
+after_call (Put v) a = value_put v a
 after_call (Set h v) a = cond (is_some (read a.cells h)) (set_at v h a) a
 after_call (Free h) a = cond (is_some (read a.cells h)) (freed_at h a) a
 after_call (Reserve n) a = a

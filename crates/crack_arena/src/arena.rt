@@ -2,7 +2,7 @@
 ghost use Rattle.std.specs.Prelude.{◌≡◌, ◌≢◌, ◌+◌, ◌%◌, ◌<◌, ◌≤◌, List, [], length, take, drop, option_copied};
 ghost use Rattle.std.specs.Prelude.{MatchOption, MatchResult, IfOk, IfErr, OnOk, OnErr, OnSome, is_some, None, Some};
 ghost use Rattle.crack_row.specs.declared.refusal.Refusal.TheVariants.{OutOfMemory};
-ghost use Rattle.crack_arena.specs.Arena.{read, freed, CanPut, handle_for, put_in, set_at, freed_at};
+ghost use Rattle.crack_arena.specs.Arena.{read, freed, CanPut, handle_for, value_put, set_at, freed_at};
 ghost use Rattle.crack_arena.specs.Arena.{cell_at, IsWholeArena};
 ghost use Rattle.crack_arena.specs.Arena.{IsSpent, KeepsSpent, ArenaCall, after_calls};
 ghost use Rattle.crack_arena.specs.declared.TheConstants.{MOST_FREED};
@@ -100,7 +100,7 @@ impl<T: Copy> Arena<T> {
     }
 
     /// States the invariants of every arena. Does nothing at run time.
-    pub fn facts(&self)
+    pub fn recall_invariant(&self)
         ensures { IsWholeArena self.now }
     {
         let _ = &self.cells;
@@ -161,7 +161,7 @@ impl<T: Copy> Arena<T> {
     pub fn put(&mut self, value: T) -> Result<Handle<T>, PutRefused<T>>
         requires { CanPut self.old }
         ensures handle { IfOk result (λ handle. handle ≡ handle_for self.old.cells self.old.free) }
-        ensures after { OnOk result (self.new ≡ record (put_in value self.old) { room = self.new.room }) }
+        ensures after { OnOk result (self.new ≡ record (value_put value self.old) { room = self.new.room }) }
         ensures room { OnOk result (self.old.room ≤ self.new.room + 1) }
         ensures back { IfErr result (λ refused. refused.value ≡ value) }
         ensures full { OnErr result (self.old.room ≡ 0) }
@@ -196,7 +196,7 @@ impl<T: Copy> Arena<T> {
         requires cells { CanPut self.old }
         ensures handle { result ≡ handle_for self.old.cells self.old.free }
         ensures vacant { (cell_at self.old.cells result.slot).value ≡ None }
-        ensures after { self.new ≡ put_in value self.old }
+        ensures after { self.new ≡ value_put value self.old }
         ensures keeps_spent { KeepsSpent self.old.cells self.new.cells }
     {
         if self.free == 0 {

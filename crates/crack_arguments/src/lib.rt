@@ -21,18 +21,18 @@ pub enum Request {
     /// Print this text: the help or the version.
     Help(String),
     /// Answer the statements of standard input over a new table.
-    Script(Opening),
+    Script(TableOptions),
     /// Let workers serve the lines of standard input.
-    Batch(Staffed),
+    Batch(BatchOptions),
     /// Let workers serve connections over TCP.
-    Serve(Service),
+    Serve(ServeOptions),
     /// Load CSV from standard input, and export it to standard output.
-    Csv(Opening),
+    Csv(TableOptions),
 }
 
 /// The options with which a table is opened. The opening refuses numbers out of range.
 #[derive(Drop)]
-pub struct Opening {
+pub struct TableOptions {
     /// The splits: any numbers of 64 bits, in the order of the command line.
     pub splits: Vec<Bound>,
     /// The limits of a partition: by default `DEFAULT_CELLS` cells, the greatest of the other limits, and upkeep on
@@ -44,8 +44,8 @@ pub struct Opening {
 
 /// The options of a table with workers. The opening refuses a number of workers out of range.
 #[derive(Drop)]
-pub struct Staffed {
-    pub opening: Opening,
+pub struct BatchOptions {
+    pub opening: TableOptions,
     pub workers: u64,
     /// Whether the workers keep receipts of their replies, which are compared with partitions' entries at the end.
     pub is_audited: bool,
@@ -53,8 +53,8 @@ pub struct Staffed {
 
 /// The options of a server.
 #[derive(Drop)]
-pub struct Service {
-    pub opening: Opening,
+pub struct ServeOptions {
+    pub opening: TableOptions,
     /// The number of workers, or `None` for as many as there are processors. The opening refuses a number out of range.
     pub workers: Option<u64>,
     /// The port of 127.0.0.1 to listen on, which isn't 0.
@@ -403,8 +403,8 @@ fn upkeep_of(matches: &ArgMatches<'_>) -> Upkeep {
     }
 }
 
-fn opening_of(alloc: Global, matches: &ArgMatches<'_>) -> Result<Opening, ArgumentsError> {
-    Ok(Opening {
+fn opening_of(alloc: Global, matches: &ArgMatches<'_>) -> Result<TableOptions, ArgumentsError> {
+    Ok(TableOptions {
         splits: splits_of(alloc, matches)?,
         limits: limits_of(matches),
         policy: policy_of(matches),
@@ -425,8 +425,11 @@ fn port_of(matches: &ArgMatches<'_>) -> Result<u16, ArgumentsError> {
 }
 
 /// The options of a batch.
-fn staffed_of(alloc: Global, matches: &ArgMatches<'_>) -> Result<Staffed, ArgumentsError> {
-    Ok(Staffed {
+fn batch_options_of(
+    alloc: Global,
+    matches: &ArgMatches<'_>,
+) -> Result<BatchOptions, ArgumentsError> {
+    Ok(BatchOptions {
         workers: number_of(matches, "workers")?,
         is_audited: matches.get_flag("audit"),
         opening: opening_of(alloc, matches)?,
@@ -469,8 +472,8 @@ fn idle_of(matches: &ArgMatches<'_>) -> Result<Option<u32>, ArgumentsError> {
 }
 
 /// The options of a server. An error if one is missing or out of range.
-fn service_of(alloc: Global, matches: &ArgMatches<'_>) -> Result<Service, ArgumentsError> {
-    Ok(Service {
+fn service_of(alloc: Global, matches: &ArgMatches<'_>) -> Result<ServeOptions, ArgumentsError> {
+    Ok(ServeOptions {
         port: port_of(matches)?,
         sessions: sessions_of(matches)?,
         idle: idle_of(matches)?,
@@ -488,7 +491,7 @@ fn script_of(alloc: Global, matches: &ArgMatches<'_>) -> Result<Request, Argumen
 }
 
 fn batch_of(alloc: Global, matches: &ArgMatches<'_>) -> Result<Request, ArgumentsError> {
-    Ok(Request::Batch(staffed_of(alloc, matches)?))
+    Ok(Request::Batch(batch_options_of(alloc, matches)?))
 }
 
 fn serve_of(alloc: Global, matches: &ArgMatches<'_>) -> Result<Request, ArgumentsError> {

@@ -20,20 +20,20 @@ mod texts;
 
 use crate::arguments::{numbers_of, policy_of};
 use crate::histories::runs::{Plan, carry_out};
-use crate::report::{Host, explained};
+use crate::report::{BenchHost, explained};
 use crack_row::{Limits, Policy, Upkeep, Watched};
 use std::io;
 use std::io::BufWriter;
 
 /// Has the workers ask, and writes their replies and the histories.
-fn run_planned<R: Host>(rt: &R, plan: Plan) -> anyhow::Result<()> {
+fn run_planned<R: BenchHost>(rt: &R, plan: Plan) -> anyhow::Result<()> {
     let mut writer = Watched::new(BufWriter::new(rt.alloc(), io::writer(rt))?);
     carry_out(rt, plan, &mut writer)?;
     Ok(())
 }
 
 /// Prints the histories for a policy and the other arguments.
-fn run_numbered<R: Host>(rt: &R, policy: Policy, words: &[&str]) -> anyhow::Result<()> {
+fn run_numbered<R: BenchHost>(rt: &R, policy: Policy, words: &[&str]) -> anyhow::Result<()> {
     let numbers = numbers_of(rt.alloc(), words)?;
     let plan = match numbers.as_slice() {
         [seed, workers, statements, history, cells, life] => Some(Plan {
@@ -58,7 +58,7 @@ fn run_numbered<R: Host>(rt: &R, policy: Policy, words: &[&str]) -> anyhow::Resu
 }
 
 /// Prints the histories that the arguments ask for.
-pub fn run<R: Host>(rt: &R, words: &[&str]) -> anyhow::Result<()> {
+pub fn run<R: BenchHost>(rt: &R, words: &[&str]) -> anyhow::Result<()> {
     let [seed, workers, statements, policy, limit, cells, life] = words else {
         return explained(None);
     };

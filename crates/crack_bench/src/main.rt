@@ -13,12 +13,12 @@
 mod arguments;
 mod histories;
 mod report;
-mod seats;
 mod single;
+mod table_workers;
 mod workers;
 
 use arguments::policy_of;
-use report::{Host, explained};
+use report::{BenchHost, explained};
 use std::env;
 
 /// The arguments of small runs whose results are always the same.
@@ -56,7 +56,7 @@ const ALL: &[&[&str]] = &[
 ];
 
 /// Runs what the arguments ask for.
-fn run<R: Host>(rt: &R, words: &[&str]) -> anyhow::Result<()> {
+fn run<R: BenchHost>(rt: &R, words: &[&str]) -> anyhow::Result<()> {
     match words {
         ["workers", "unaudited", name, rest @ ..] => workers::run(rt, false, name, rest),
         ["workers", name, rest @ ..] => workers::run(rt, true, name, rest),
@@ -68,7 +68,7 @@ fn run<R: Host>(rt: &R, words: &[&str]) -> anyhow::Result<()> {
 }
 
 /// Carries out the runs of `ALL`, until one fails.
-fn run_all<R: Host>(rt: &R) -> anyhow::Result<()> {
+fn run_all<R: BenchHost>(rt: &R) -> anyhow::Result<()> {
     'runs: for words in ALL {
         run(rt, words)?;
     }

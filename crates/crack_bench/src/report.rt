@@ -9,14 +9,14 @@ use std::thread::Threads;
 use std::time::Instant;
 
 /// The handles that write results and times.
-pub trait Output: Alloc<A = Global> + Print + Eprint + Clock {}
+pub trait BenchOutput: Alloc<A = Global> + Print + Eprint + Clock {}
 
-impl<R: Alloc<A = Global> + Print + Eprint + Clock> Output for R {}
+impl<R: Alloc<A = Global> + Print + Eprint + Clock> BenchOutput for R {}
 
-/// The handles of `Output`, and those that start threads and wait for them.
-pub trait Host: Output + Threads + Wait + Sync {}
+/// The handles of `BenchOutput`, and those that start threads and wait for them.
+pub trait BenchHost: BenchOutput + Threads + Wait + Sync {}
 
-impl<R: Output + Threads + Wait + Sync> Host for R {}
+impl<R: BenchOutput + Threads + Wait + Sync> BenchHost for R {}
 
 /// Why a measurement ended early.
 #[derive(Drop)]
@@ -43,7 +43,7 @@ impl From<io::Error> for Failure {
 
 /// Writes how long a part took that began at `since`, under this name, to standard error. Returns the time at which
 /// the next part begins.
-pub fn report<R: Output>(rt: &R, name: &str, since: Instant) -> io::Result<Instant> {
+pub fn report<R: BenchOutput>(rt: &R, name: &str, since: Instant) -> io::Result<Instant> {
     let nanoseconds = since.elapsed(rt)?.as_nanos();
     eprintln!(rt; "{name} {nanoseconds}")?;
     Instant::now(rt)

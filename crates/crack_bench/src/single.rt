@@ -14,14 +14,14 @@ mod partition;
 mod steps;
 
 use crate::arguments::numbers_of;
-use crate::report::{Outcome, Output, explained};
+use crate::report::{BenchOutput, Outcome, explained};
 use crate::single::partition::Sizes;
 use crate::single::steps::kind_of;
 use crack_row::Policy;
 
 /// Carries out a partition's measurement with this name. `None` if there is none, or if it takes more or fewer
 /// numbers.
-fn measured_partition<R: Output>(
+fn measured_partition<R: BenchOutput>(
     rt: &R,
     name: &str,
     policy: Policy,
@@ -41,7 +41,7 @@ fn measured_partition<R: Output>(
 }
 
 /// Carries out the measurement with this name, policy and numbers. `None` if there is none.
-fn measured<R: Output>(
+fn measured<R: BenchOutput>(
     rt: &R,
     name: &str,
     policy: Option<Policy>,
@@ -56,7 +56,7 @@ fn measured<R: Output>(
 }
 
 /// Carries out the measurement with this name and policy; the arguments are its numbers.
-pub fn run<R: Output>(
+pub fn run<R: BenchOutput>(
     rt: &R,
     name: &str,
     policy: Option<Policy>,

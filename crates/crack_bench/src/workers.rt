@@ -12,11 +12,11 @@ mod mix;
 mod opening;
 
 use crate::arguments::numbers_of;
-use crate::report::{Host, Outcome, explained};
-use crate::workers::measuring::{End, Run, Sharing, Work};
+use crate::report::{BenchHost, Outcome, explained};
+use crate::workers::measuring::{MeasuredRun, RunEnd, Sharing, Work};
 
 /// The run with this name and these numbers, or `None` if there is none.
-fn run_of(name: &str, numbers: &[u32]) -> Option<Run> {
+fn run_of(name: &str, numbers: &[u32]) -> Option<MeasuredRun> {
     let (workers, rows, sharing, work) = match (name, numbers) {
         ("ask", [rows, steps]) => (1, *rows, Sharing::Own, Work::Alone { steps: *steps }),
         ("own", [workers, rows, steps]) => (
@@ -41,10 +41,10 @@ fn run_of(name: &str, numbers: &[u32]) -> Option<Run> {
         _ => return None,
     };
     let end = match name {
-        "ask" | "loaded" => End::Leave,
-        _ => End::Gather,
+        "ask" | "loaded" => RunEnd::Leave,
+        _ => RunEnd::Gather,
     };
-    Some(Run {
+    Some(MeasuredRun {
         workers,
         sharing,
         rows,
@@ -54,7 +54,12 @@ fn run_of(name: &str, numbers: &[u32]) -> Option<Run> {
 }
 
 /// Carries out the measurement with this name and these numbers. `None` if there is none.
-fn measured<R: Host>(rt: &R, is_audited: bool, name: &str, numbers: &[u32]) -> Option<Outcome> {
+fn measured<R: BenchHost>(
+    rt: &R,
+    is_audited: bool,
+    name: &str,
+    numbers: &[u32],
+) -> Option<Outcome> {
     match (is_audited, name, numbers) {
         (true, "bare", [rows, steps]) => Some(bare::run(rt, *rows, *steps)),
         _ => Some(opening::run(rt, is_audited, run_of(name, numbers)?)),
@@ -62,7 +67,12 @@ fn measured<R: Host>(rt: &R, is_audited: bool, name: &str, numbers: &[u32]) -> O
 }
 
 /// Carries out the measurement with this name, over a table with an audit or without; the arguments are its numbers.
-pub fn run<R: Host>(rt: &R, is_audited: bool, name: &str, words: &[&str]) -> anyhow::Result<()> {
+pub fn run<R: BenchHost>(
+    rt: &R,
+    is_audited: bool,
+    name: &str,
+    words: &[&str],
+) -> anyhow::Result<()> {
     let numbers = numbers_of(rt.alloc(), words)?;
     let outcome = measured(rt, is_audited, name, numbers.as_slice());
     drop(numbers);

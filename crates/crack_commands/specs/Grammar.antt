@@ -15,7 +15,7 @@ use Rattle.crack_row.specs.declared.refusal.Refusal.TheVariants.{BadStatement, B
 use Rattle.crack_commands.specs.declared.words.TheConstants.{MOST_DIGITS, GREATEST_PART, GREATEST_SERIAL}
 use Rattle.crack_commands.specs.declared.statement.Statement.{Statement}
 use Rattle.crack_commands.specs.declared.statement.Statement.TheVariants.{Insert, Delete, Update, Count, Sum, Select, Layout, Checkpoint, Watch, WatchPart, Policy, Ping, End}
-use Rattle.crack_commands.specs.declared.statement.Ending.TheVariants.{Quit, Http}
+use Rattle.crack_commands.specs.declared.statement.ClosingLine.TheVariants.{Quit, Http}
 
 -- the meaning of a line: a statement, or why it isn't one
 abbrev pub Reading : Type 0

@@ -13,7 +13,7 @@ use Rattle.crack_row.specs.declared.refusal.Refusal.{Refusal}
 use Rattle.crack_row.specs.declared.refusal.Refusal.TheVariants.{BadStatement, BadRange}
 use Rattle.crack_commands.specs.declared.words.TheConstants.{GREATEST_PART}
 use Rattle.crack_commands.specs.declared.statement.Statement.TheVariants.{Insert, Delete, Update, Layout as AsksLayout, Checkpoint, Watch, WatchPart, Policy, Ping, End}
-use Rattle.crack_commands.specs.declared.statement.Ending.TheVariants.{Quit}
+use Rattle.crack_commands.specs.declared.statement.ClosingLine.TheVariants.{Quit}
 use Rattle.crack_commands.specs.Grammar.{Reading, words, is_digit, number_of, whole_number_of, number_up_to, row_number_of, key_read, payload_read, two_of, only_word, policy_named, made}
 use Rattle.crack_commands.specs.Texts.{field_text}
 

@@ -10,9 +10,9 @@ mod words;
 
 pub use leading::{LeadingInsert, leading_insert};
 pub use output::send;
-pub use statement::{Ending, Statement, parse_long, parse_statement};
+pub use statement::{ClosingLine, Statement, parse_long, parse_statement};
 pub use text::{
-    LONGEST_TEXT, TEXT_BYTES, policy_line, push, push_count, push_folded, push_gone, push_head,
+    LONGEST_TEXT, TEXT_BYTES, policy_line, push, push_checkpoint, push_count, push_gone, push_head,
     push_layout_head, push_piece, push_placed, push_refusal, push_row, push_sum,
 };
 pub use watching::{Traffic, push_numbers};

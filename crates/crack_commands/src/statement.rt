@@ -48,12 +48,12 @@ pub enum Statement {
     /// Report that the session is alive.
     Ping,
     /// End the session.
-    End(Ending),
+    End(ClosingLine),
 }
 
-/// How a line ends a session.
+/// A line that ends a session.
 #[derive(Clone, Copy, Debug)]
-pub enum Ending {
+pub enum ClosingLine {
     /// The line is the statement `quit`.
     Quit,
     /// The line belongs to an HTTP request, which a web page that is open on the same machine can send.
@@ -125,7 +125,7 @@ fn parse_unnamed(word: &[u8]) -> Result<Statement, Refusal>
     ensures { result ≡ unnamed word.now }
 {
     if is_http(word) {
-        Ok(Statement::End(Ending::Http))
+        Ok(Statement::End(ClosingLine::Http))
     } else {
         Err(Refusal::BadStatement)
     }
@@ -341,7 +341,7 @@ fn parse_quit(rest: &[u8]) -> Result<Statement, Refusal>
 {
     let (word, _) = next_word(rest);
     if word.is_empty() {
-        Ok(Statement::End(Ending::Quit))
+        Ok(Statement::End(ClosingLine::Quit))
     } else {
         Err(Refusal::BadStatement)
     }

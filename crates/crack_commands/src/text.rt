@@ -83,12 +83,12 @@ pub fn push_sum<const ROOM: usize>(text: &mut ArrayVec<u8, ROOM>, sum: i128)
 }
 
 /// Adds the line of a checkpoint: `folded N`, with the number of commands accepted since the previous one.
-pub fn push_folded<const ROOM: usize>(text: &mut ArrayVec<u8, ROOM>, folded: u64)
+pub fn push_checkpoint<const ROOM: usize>(text: &mut ArrayVec<u8, ROOM>, checkpointed: u64)
     requires { length text.old.items + TEXT_BYTES ≤ ROOM }
-    ensures { text.new.items ≡ text.old.items ++ line_text (codes "folded ") (decimal folded) }
+    ensures { text.new.items ≡ text.old.items ++ line_text (codes "folded ") (decimal checkpointed) }
 {
     push(text, b"folded ");
-    push_number(text, folded);
+    push_number(text, checkpointed);
     push(text, b"\n");
 }
 

@@ -10,15 +10,15 @@ use Rattle.crack_row.specs.declared.Bound.{Bound}
 use Rattle.crack_row.specs.declared.limit.Limits.{Limits}
 use Rattle.crack_row.specs.declared.refusal.Refusal.{Refusal}
 use Rattle.crack_row.specs.declared.refusal.Refusal.TheVariants.{NoSuchPartition, OutOfMemory}
-use Rattle.crack_plain.specs.Plain.{PlainView, accepted_of, checkpointed}
-use Rattle.crack_part.specs.Parts.{Part, table_of, folded_part}
+use Rattle.crack_plain.specs.Plain.{PlainView, accepted_of, checkpointed_table}
+use Rattle.crack_part.specs.Parts.{Part, table_of, checkpointed_part}
 use Rattle.crack_core.specs.declared.step.Job.{Job}
-use Rattle.crack_core.specs.declared.step.Job.TheVariants.{Perform, Fold}
+use Rattle.crack_core.specs.declared.step.Job.TheVariants.{Perform, Checkpoint}
 use Rattle.crack_core.specs.declared.step.Done.{Done}
-use Rattle.crack_core.specs.declared.step.Done.TheVariants.{Folded}
+use Rattle.crack_core.specs.declared.step.Done.TheVariants.{CheckpointMade}
 use Rattle.crack_core.specs.Routes.{keys_of_part}
-use Rattle.crack_core.specs.Steps.{Bounds, bounds_from, mapped, fresh_table, tables_of, accepted_by, IsOutcome, IsFoldOutcome, expected_fold, changed_at}
-use Rattle.crack_core.specs.Jobs.{after_job, after_jobs, KeepsJobs, IsJobOutcome, AreExpectedOutcomes, IsFoldedAt, Does, DoesAll}
+use Rattle.crack_core.specs.Steps.{Bounds, bounds_from, mapped, fresh_table, tables_of, accepted_by, IsOutcome, IsCheckpointOutcome, expected_checkpoint, changed_at}
+use Rattle.crack_core.specs.Jobs.{after_job, after_jobs, KeepsJobs, IsJobOutcome, AreExpectedOutcomes, IsCheckpointedAt, Does, DoesAll}
 use Rattle.crack_core.proofs.StepLaws.{get-last, get-front, get-set_same, get-set_other}
 
 -- one more job
@@ -47,7 +47,7 @@ KeepsJobs-nil limits tables = λ part. option-same (slice_get tables part)
 -- a job that was refused
 refused-table : (limits : Limits) (part : ℕ) (job : Job) (e : Refusal) (table : PlainView) → after_job limits part job (Err e) table ≡ table
 refused-table limits part (Perform step) e table = refl
-refused-table limits part (Fold number) e table = refl
+refused-table limits part (Checkpoint number) e table = refl
 
 pub KeepsJobs-refused : (limits : Limits) (tables : List PlainView) (job : Job) (e : Refusal) → KeepsJobs limits tables (job ∷ []) (Err e ∷ []) tables
 KeepsJobs-refused limits tables job e = λ part. by_table part (slice_get tables part)
@@ -57,64 +57,64 @@ KeepsJobs-refused limits tables job e = λ part. by_table part (slice_get tables
     by_table part (Some table) = ap Some (sym (refused-table limits part job e table))
 
 -- a checkpoint of a partition is one of its plain table
-pub KeepsJobs-fold : (limits : Limits) (old new : List Part) (number count : ℕ) → IsFoldedAt number old new → KeepsJobs limits (tables_of old) (Fold number ∷ []) (Ok (Folded count) ∷ []) (tables_of new)
-KeepsJobs-fold limits old new number count folds = λ part.
-    slice_get-map (λ (p : Part). table_of p) new part ∙ ap (option_map (λ (p : Part). table_of p)) (folds part) ∙ by_part part (slice_get old part) ∙ ap (option_map (after_jobs limits part (Fold number ∷ []) (Ok (Folded count) ∷ []))) (sym (slice_get-map (λ (p : Part). table_of p) old part))
+pub KeepsJobs-checkpoint : (limits : Limits) (old new : List Part) (number count : ℕ) → IsCheckpointedAt number old new → KeepsJobs limits (tables_of old) (Checkpoint number ∷ []) (Ok (CheckpointMade count) ∷ []) (tables_of new)
+KeepsJobs-checkpoint limits old new number count checkpoints = λ part.
+    slice_get-map (λ (p : Part). table_of p) new part ∙ ap (option_map (λ (p : Part). table_of p)) (checkpoints part) ∙ by_part part (slice_get old part) ∙ ap (option_map (after_jobs limits part (Checkpoint number ∷ []) (Ok (CheckpointMade count) ∷ []))) (sym (slice_get-map (λ (p : Part). table_of p) old part))
   where
-    by_test : (b : Bool) (p : Part) → table_of (cond b (folded_part p) p) ≡ cond b (checkpointed (table_of p)) (table_of p)
+    by_test : (b : Bool) (p : Part) → table_of (cond b (checkpointed_part p) p) ≡ cond b (checkpointed_table (table_of p)) (table_of p)
     by_test true p = refl
     by_test false p = refl
 
-    by_part : (part : ℕ) (o : Option Part) → option_map (λ (p : Part). table_of p) (option_map (λ (p : Part). if number == part then folded_part p else p) o) ≡ option_map (after_jobs limits part (Fold number ∷ []) (Ok (Folded count) ∷ [])) (option_map (λ (p : Part). table_of p) o)
+    by_part : (part : ℕ) (o : Option Part) → option_map (λ (p : Part). table_of p) (option_map (λ (p : Part). if number == part then checkpointed_part p else p) o) ≡ option_map (after_jobs limits part (Checkpoint number ∷ []) (Ok (CheckpointMade count) ∷ [])) (option_map (λ (p : Part). table_of p) o)
     by_part part None = refl
     by_part part (Some p) = ap Some (by_test (number == part) p)
 
 -- the partition that is named is replaced by itself, checkpointed
-pub IsFoldedAt-set : (parts : List Part) (i : ℕ) (q d : Part) → i < length parts → q ≡ folded_part (get_or parts i d) → IsFoldedAt i parts (set parts i q)
-IsFoldedAt-set parts i q d within is = λ k. ⊎_elim
-    (λ (same : k ≡ i). subst (λ (n : ℕ). slice_get (set parts i q) n ≡ option_map (λ (p : Part). if i == n then folded_part p else p) (slice_get parts n)) (sym same) own)
+pub IsCheckpointedAt-set : (parts : List Part) (i : ℕ) (q d : Part) → i < length parts → q ≡ checkpointed_part (get_or parts i d) → IsCheckpointedAt i parts (set parts i q)
+IsCheckpointedAt-set parts i q d within is = λ k. ⊎_elim
+    (λ (same : k ≡ i). subst (λ (n : ℕ). slice_get (set parts i q) n ≡ option_map (λ (p : Part). if i == n then checkpointed_part p else p) (slice_get parts n)) (sym same) own)
     (λ (other : k ≢ i).
     get-set_other parts i k q other ∙ same_part (slice_get parts k) (i == k) (ne_eqb i k (λ e. other (sym e))))
     (cases_eq k i)
   where
-    same_part : (o : Option Part) (b : Bool) → b ≡ false → o ≡ option_map (λ (p : Part). if b then folded_part p else p) o
+    same_part : (o : Option Part) (b : Bool) → b ≡ false → o ≡ option_map (λ (p : Part). if b then checkpointed_part p else p) o
     same_part None b no_match = refl
     same_part (Some p) b no_match = rw no_match refl
 
-    own : slice_get (set parts i q) i ≡ option_map (λ (p : Part). if i == i then folded_part p else p) (slice_get parts i)
+    own : slice_get (set parts i q) i ≡ option_map (λ (p : Part). if i == i then checkpointed_part p else p) (slice_get parts i)
     own = rw (slice_get-get_or parts i d within, eq-eqb i i refl) (get-set_same parts i q within ∙ ap Some is)
 
-pub tables-folded : (parts : List Part) (i count : ℕ) (q d : Part) → i < length parts → q ≡ folded_part (get_or parts i d) → tables_of (set parts i q) ≡ changed_at {X = ℕ} checkpointed (tables_of parts) i (Ok count)
-tables-folded parts i count q d within is =
+pub tables-checkpointed : (parts : List Part) (i count : ℕ) (q d : Part) → i < length parts → q ≡ checkpointed_part (get_or parts i d) → tables_of (set parts i q) ≡ changed_at {X = ℕ} checkpointed_table (tables_of parts) i (Ok count)
+tables-checkpointed parts i count q d within is =
     let table = λ (p : Part). table_of p in
-    map-set table parts i q ∙ ap (set (tables_of parts) i) (ap table is ∙ ap checkpointed (sym (get_or-map table parts i d fresh_table within)))
+    map-set table parts i q ∙ ap (set (tables_of parts) i) (ap table is ∙ ap checkpointed_table (sym (get_or-map table parts i d fresh_table within)))
 
-pub accepted-folded : (parts : List Part) (i : ℕ) (q d : Part) → i < length parts → q ≡ folded_part (get_or parts i d) → accepted_by (set parts i q) ≡ accepted_by parts
-accepted-folded parts i q d within is =
+pub accepted-checkpointed : (parts : List Part) (i : ℕ) (q d : Part) → i < length parts → q ≡ checkpointed_part (get_or parts i d) → accepted_by (set parts i q) ≡ accepted_by parts
+accepted-checkpointed parts i q d within is =
     let sum = sum_by-set (λ (p : Part). accepted_of (table_of p)) parts i q d within in
     let same : accepted_of (table_of q) ≡ accepted_of (table_of (get_or parts i d)) + 0 = ap (λ (p : Part). accepted_of (table_of p)) is in
     omega (arith, sum, same)
 
 -- the outcome of a checkpoint: of a partition that is there, and if there is none
-pub fold-at : (parts : List Part) (i : ℕ) (d : Part) → i < length parts → Ok (get_or parts i d).since ≡ expected_fold (slice_get (tables_of parts) i)
-fold-at parts i d within =
+pub checkpoint-at : (parts : List Part) (i : ℕ) (d : Part) → i < length parts → Ok (get_or parts i d).since ≡ expected_checkpoint (slice_get (tables_of parts) i)
+checkpoint-at parts i d within =
     let table = λ (p : Part). table_of p in
     let there = slice_get-map table parts i ∙ ap (option_map table) (slice_get-get_or parts i d within) in
-    ap expected_fold (sym there)
+    ap expected_checkpoint (sym there)
 
-pub fold-nowhere : (parts : List Part) (i : ℕ) → length parts ≤ i → Err NoSuchPartition ≡ expected_fold (slice_get (tables_of parts) i)
-fold-nowhere parts i beyond =
+pub checkpoint-nowhere : (parts : List Part) (i : ℕ) → length parts ≤ i → Err NoSuchPartition ≡ expected_checkpoint (slice_get (tables_of parts) i)
+checkpoint-nowhere parts i beyond =
     let none = slice_get_past (tables_of parts) i (omega (arith, beyond, length-map parts (λ (p : Part). table_of p))) in
-    ap expected_fold (sym none)
+    ap expected_checkpoint (sym none)
 
 -- the partitions that a checkpoint leaves have the same keys and limits
-pub opened-fold : (p q : Part) → q ≡ folded_part p → (q.keys ≡ p.keys) × (q.limits ≡ p.limits)
-opened-fold p q is = (ap (λ (p : Part). p.keys) is, ap (λ (p : Part). p.limits) is)
+pub opened-checkpoint : (p q : Part) → q ≡ checkpointed_part p → (q.keys ≡ p.keys) × (q.limits ≡ p.limits)
+opened-checkpoint p q is = (ap (λ (p : Part). p.keys) is, ap (λ (p : Part). p.limits) is)
 
 -- the outcome of a job is the same for equal tables
 pub outcome-alike : (bounds : Bounds) (splits : List Bound) (tables others : ℕ → Option PlainView) (job : Job) (result : Result Done Refusal) → ((part : ℕ) → tables part ≡ others part) → IsJobOutcome bounds splits tables job result → IsJobOutcome bounds splits others job result
 outcome-alike bounds splits tables others (Perform step) result alike comes = (comes.0, comes.1, subst (λ (t : Option PlainView). IsOutcome bounds (keys_of_part splits step.part) t step.command comes.0) (alike step.part) comes.2)
-outcome-alike bounds splits tables others (Fold part) result alike comes = subst (λ (t : Option PlainView). result ≡ mapped Folded (expected_fold t)) (alike part) comes
+outcome-alike bounds splits tables others (Checkpoint part) result alike comes = subst (λ (t : Option PlainView). result ≡ mapped CheckpointMade (expected_checkpoint t)) (alike part) comes
 
 -- no job
 pub AreExpectedOutcomes-nil : (limits : Limits) (splits : List Bound) (tables : List PlainView) → AreExpectedOutcomes limits splits tables [] []
@@ -158,6 +158,6 @@ DoesAll-push splits limits (x ∷ jobs) [] j r old now new before does = absurd 
 DoesAll-push splits limits (x ∷ jobs) (y ∷ results) j r old now new before does = (before.0, before.1, DoesAll-push splits limits jobs results j r before.0 now new before.2 does)
 
 -- the outcome of a checkpoint that takes no memory is one of a checkpoint
-pub fold-expected : (table : Option PlainView) (r : Result ℕ Refusal) → r ≡ expected_fold table → IsFoldOutcome table r
-fold-expected None r is = is
-fold-expected (Some t) r is = inl is
+pub checkpoint-expected : (table : Option PlainView) (r : Result ℕ Refusal) → r ≡ expected_checkpoint table → IsCheckpointOutcome table r
+checkpoint-expected None r is = is
+checkpoint-expected (Some t) r is = inl is

@@ -23,7 +23,7 @@ use Rattle.crack_part.specs.Parts.{Part, IsSound, table_of, Serves, Spares}
 use Rattle.crack_part.specs.Cells.{is_without_cell}
 use Rattle.crack_part.specs.Outcomes.{Applies}
 use Rattle.crack_part.specs.Refusals.{is_key_in, stopped_by, refusal_of}
-use Rattle.crack_part.specs.Runs.{insertion, InsertsAt, InsertsRun, no_row, next_row}
+use Rattle.crack_part.specs.Runs.{insertion_at, InsertsInto, InsertsRun, no_row, next_row}
 use Rattle.crack_row.specs.Commands.{change_of}
 use Rattle.crack_part.proofs.RefusalLaws.{within-true}
 use Rattle.crack_core.specs.declared.step.Step.{Step}
@@ -94,9 +94,9 @@ route-of splits part n are within below inside = elim (cases_lt part (route spli
 ]
 
 -- the row was inserted into the partition of its key
-inserts-set : (splits : List Bound) (limits : Limits) (keys : List ℕ) (payloads : List ℤ) (k part : ℕ) (parts : List Part) (p q d : Part) → AreSplits splits → AreParts splits limits parts → part < length parts → p ≡ get_or parts part d → InsertsAt keys payloads k (Ok (Placed (record { 0 = p.next }))) p q → Inserts limits splits (key_in keys k) (payload_in payloads k) (Ok (row_number part p.next)) parts (set parts part q)
+inserts-set : (splits : List Bound) (limits : Limits) (keys : List ℕ) (payloads : List ℤ) (k part : ℕ) (parts : List Part) (p q d : Part) → AreSplits splits → AreParts splits limits parts → part < length parts → p ≡ get_or parts part d → InsertsInto keys payloads k (Ok (Placed (record { 0 = p.next }))) p q → Inserts limits splits (key_in keys k) (payload_in payloads k) (Ok (row_number part p.next)) parts (set parts part q)
 inserts-set splits limits keys payloads k part parts p q d good are within is inserts =
-    let command = insertion keys payloads k in
+    let command = insertion_at keys payloads k in
     let reply = Placed (record { 0 = p.next }) in
     let inside = key-within p command (key_in keys k) reply (q ≡ p) refl inserts.applies.refused in
     let of_keys : p.keys ≡ keys_of_part splits part = ap (λ (x : Part). x.keys) is ∙ are.keys part d within in
@@ -111,9 +111,9 @@ inserts-set splits limits keys payloads k part parts p q d good are within is in
     }
 
 -- or it was refused there
-pub inserts-refused : (splits : List Bound) (limits : Limits) (keys : List ℕ) (payloads : List ℤ) (k part : ℕ) (e : Refusal) (parts : List Part) (q d : Part) → AreParts splits limits parts → part < length parts → part ≡ route splits (slice_index_or keys k 0) → InsertsAt keys payloads k (Err e) (get_or parts part d) q → Inserts limits splits (key_in keys k) (payload_in payloads k) (Err e) parts (set parts part q)
+pub inserts-refused : (splits : List Bound) (limits : Limits) (keys : List ℕ) (payloads : List ℤ) (k part : ℕ) (e : Refusal) (parts : List Part) (q d : Part) → AreParts splits limits parts → part < length parts → part ≡ route splits (slice_index_or keys k 0) → InsertsInto keys payloads k (Err e) (get_or parts part d) q → Inserts limits splits (key_in keys k) (payload_in payloads k) (Err e) parts (set parts part q)
 inserts-refused splits limits keys payloads k part e parts q d are within there inserts =
-    let command = insertion keys payloads k in
+    let command = insertion_at keys payloads k in
     let asks = asks-set splits limits parts (step_at Gradual part command) (Err e) q d are within inserts.applies inserts.sound in
     record {
       asks = subst (λ (n : ℕ). Asks limits splits (step_at Gradual n command) (Err e) parts (set parts part q)) there asks;

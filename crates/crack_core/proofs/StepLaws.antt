@@ -15,7 +15,7 @@ use Rattle.crack_row.specs.declared.command.Reply.{Reply}
 use Rattle.crack_row.specs.declared.refusal.Refusal.{Refusal}
 use Rattle.crack_row.specs.declared.refusal.Refusal.TheVariants.{KeyOutside, NoSuchPartition, OutOfMemory, NoCell}
 use Rattle.crack_row.specs.declared.limit.Limits.{Limits}
-use Rattle.crack_plain.specs.Plain.{PlainView, accepted_of, checkpointed, reply_to, after}
+use Rattle.crack_plain.specs.Plain.{PlainView, accepted_of, checkpointed_table, reply_to, after}
 use Rattle.crack_part.specs.Parts.{Part, IsSound, state_of, table_of}
 use Rattle.crack_core.specs.declared.step.Step.{Step}
 use Rattle.crack_core.specs.declared.step.Job.TheVariants.{Perform}
@@ -72,7 +72,7 @@ err_given (Err e) p f = f p
 answered-is : (limits : Limits) (table : PlainView) (command : Command) → answered limits table command ≡ table_after (upkept_by (bounds_from limits) table) command
 answered-is limits table command = by_test (is_due limits table.since)
   where
-    by_test : (b : Bool) → record { state = after table.state command; folded = (cond b (checkpointed table) table).folded; since = (cond b (checkpointed table) table).since + 1 } ≡ table_after (cond b (checkpointed table) table) command
+    by_test : (b : Bool) → record { state = after table.state command; checkpointed = (cond b (checkpointed_table table) table).checkpointed; since = (cond b (checkpointed_table table) table).since + 1 } ≡ table_after (cond b (checkpointed_table table) table) command
     by_test true = refl
     by_test false = refl
 
@@ -80,7 +80,7 @@ answered-is limits table command = by_test (is_due limits table.since)
 accepted-after : (limits : Limits) (table : PlainView) (command : Command) → accepted_of (table_after (upkept_by (bounds_from limits) table) command) ≡ accepted_of table + 1
 accepted-after limits table command = by_test (is_due limits table.since)
   where
-    by_test : (b : Bool) → accepted_of (table_after (cond b (checkpointed table) table) command) ≡ accepted_of table + 1
+    by_test : (b : Bool) → accepted_of (table_after (cond b (checkpointed_table table) table) command) ≡ accepted_of table + 1
     by_test true = omega arith
     by_test false = omega arith
 

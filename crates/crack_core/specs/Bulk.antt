@@ -13,7 +13,7 @@ use Rattle.crack_row.specs.declared.refusal.Refusal.TheVariants.{BadRange}
 use Rattle.crack_part.specs.Parts.{Part}
 use Rattle.crack_core.specs.Asking.{Inserts, Deletes, Updates, CountsRange, Sums}
 use Rattle.crack_core.specs.Steps.{unless}
-use Rattle.crack_core.specs.declared.bulk.Progress.{Progress}
+use Rattle.crack_core.specs.declared.bulk.BulkProgress.{BulkProgress}
 
 -- what one call of a list does, by its index: why it was refused, if it was, and the partitions before and after
 abbrev pub NumberedCall : Type 1
@@ -26,7 +26,7 @@ pub data Answered (call : NumberedCall) (old : List Part) : ℕ → List Part �
 
 -- a list of calls was made: either all were answered, or those before a refused one, and those after it weren't
 -- made
-pub data Went (call : NumberedCall) (count : ℕ) (old : List Part) : Progress → List Part → Type 0 where
+pub data Went (call : NumberedCall) (count : ℕ) (old : List Part) : BulkProgress → List Part → Type 0 where
   whole : (new : List Part) → Answered call old count new → Went call count old (record { done = count; refusal = None }) new
   stopped : (done : ℕ) (e : Refusal) (between new : List Part) → done < count → Answered call old done between → call done (Some e) between new → Went call count old (record { done = done; refusal = Some e }) new
 

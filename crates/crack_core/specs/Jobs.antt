@@ -7,22 +7,22 @@ use Rattle.crack_row.specs.declared.limit.Limits.{Limits}
 use Rattle.crack_row.specs.declared.command.Reply.{Reply}
 use Rattle.crack_row.specs.declared.refusal.Refusal.{Refusal}
 use Rattle.crack_row.specs.declared.refusal.Refusal.TheVariants.{OutOfMemory}
-use Rattle.crack_plain.specs.Plain.{PlainView, checkpointed}
-use Rattle.crack_part.specs.Parts.{Part, Serves, Spares, folded_part}
+use Rattle.crack_plain.specs.Plain.{PlainView, checkpointed_table}
+use Rattle.crack_part.specs.Parts.{Part, Serves, Spares, checkpointed_part}
 use Rattle.crack_core.specs.Routes.{keys_of_part}
 use Rattle.crack_core.specs.Opening.{AreParts}
-use Rattle.crack_core.specs.Steps.{Bounds, bounds_from, mapped, IsOutcome, expected_fold, table_after, upkept_by, tables_of, tables_after}
+use Rattle.crack_core.specs.Steps.{Bounds, bounds_from, mapped, IsOutcome, expected_checkpoint, table_after, upkept_by, tables_of, tables_after}
 use Rattle.crack_core.specs.declared.step.Step.{Step}
 use Rattle.crack_core.specs.declared.step.Job.{Job}
-use Rattle.crack_core.specs.declared.step.Job.TheVariants.{Perform, Fold}
+use Rattle.crack_core.specs.declared.step.Job.TheVariants.{Perform, Checkpoint}
 use Rattle.crack_core.specs.declared.step.Done.{Done}
-use Rattle.crack_core.specs.declared.step.Done.TheVariants.{Replied, Folded}
+use Rattle.crack_core.specs.declared.step.Done.TheVariants.{Replied, CheckpointMade}
 
 -- the plain table of one partition after a job: an answered step of this partition adds its command, after the
 -- checkpoint that is due, and a checkpoint of this partition is made; other jobs change nothing
 abbrev pub after_job : Limits → ℕ → Job → Result Done Refusal → PlainView → PlainView
 after_job limits part (Perform step) (Ok (Replied reply)) table = if step.part == part then table_after (upkept_by (bounds_from limits) table) step.command else table
-after_job limits part (Fold number) (Ok (Folded count)) table = if number == part then checkpointed table else table
+after_job limits part (Checkpoint number) (Ok (CheckpointMade count)) table = if number == part then checkpointed_table table else table
 after_job limits part job result table = table
 
 -- the plain table of one partition after several jobs, in order
@@ -52,7 +52,7 @@ pub record DoesStep (splits : List Bound) (limits : Limits) (step : Step) (resul
 -- returns how many commands its partition had accepted since the previous one
 abbrev pub IsJobOutcome : Bounds → List Bound → (ℕ → Option PlainView) → Job → Result Done Refusal → Type 0
 IsJobOutcome bounds splits table (Perform step) result = (outcome : Result Reply Refusal) × (result ≡ mapped Replied outcome) × IsOutcome bounds (keys_of_part splits step.part) (table step.part) step.command outcome
-IsJobOutcome bounds splits table (Fold part) result = result ≡ mapped Folded (expected_fold (table part))
+IsJobOutcome bounds splits table (Checkpoint part) result = result ≡ mapped CheckpointMade (expected_checkpoint (table part))
 
 -- the expected outcomes of jobs: each is what its partition must answer, from its plain table before the first job
 -- and its own earlier jobs; neither policies nor other partitions' jobs matter
@@ -62,20 +62,20 @@ pub record AreExpectedOutcomes (limits : Limits) (splits : List Bound) (tables :
       IsJobOutcome (bounds_from limits) splits (λ part. option_map (after_jobs limits part (take k jobs) (take k results)) (slice_get tables part)) job result
 
 -- a checkpoint of the partition with this number is made, and the others are unchanged
-abbrev pub IsFoldedAt : ℕ → List Part → List Part → Type 0
-IsFoldedAt number old new = (k : ℕ) → slice_get new k ≡ option_map (λ part. if number == k then folded_part part else part) (slice_get old k)
+abbrev pub IsCheckpointedAt : ℕ → List Part → List Part → Type 0
+IsCheckpointedAt number old new = (k : ℕ) → slice_get new k ≡ option_map (λ part. if number == k then checkpointed_part part else part) (slice_get old k)
 
 -- what a checkpoint does to the partitions of these splits: each remains sound, the named one makes a checkpoint,
 -- and a refusal changes nothing
-pub record Folds (splits : List Bound) (limits : Limits) (number : ℕ) (result : Result ℕ Refusal) (old new : List Part) : Type 0 where
+pub record Checkpoints (splits : List Bound) (limits : Limits) (number : ℕ) (result : Result ℕ Refusal) (old new : List Part) : Type 0 where
   pub parts : AreParts splits limits new
-  pub folds : OnOk result (IsFoldedAt number old new)
+  pub checkpoints : OnOk result (IsCheckpointedAt number old new)
   pub same : OnErr result (new ≡ old)
 
 -- what a job does to the partitions of these splits
 abbrev pub Does : List Bound → Limits → Job → Result Done Refusal → List Part → List Part → Type 0
 Does splits limits (Perform step) result old new = (outcome : Result Reply Refusal) × (result ≡ mapped Replied outcome) × DoesStep splits limits step outcome old new
-Does splits limits (Fold part) result old new = (outcome : Result ℕ Refusal) × (result ≡ mapped Folded outcome) × Folds splits limits part outcome old new
+Does splits limits (Checkpoint part) result old new = (outcome : Result ℕ Refusal) × (result ≡ mapped CheckpointMade outcome) × Checkpoints splits limits part outcome old new
 
 -- jobs are done in order, each by the partitions that the previous one left, with these outcomes
 abbrev pub DoesAll : List Bound → Limits → List Job → List (Result Done Refusal) → List Part → List Part → Type 0

@@ -12,7 +12,7 @@ use Rattle.crack_row.specs.declared.command.Reply.{Reply}
 use Rattle.crack_row.specs.declared.layout.Layout.{Layout}
 use Rattle.crack_row.specs.declared.refusal.Refusal.{Refusal}
 use Rattle.crack_row.specs.declared.refusal.Refusal.TheVariants.{NoSuchPartition, OutOfMemory, NoCell}
-use Rattle.crack_plain.specs.Plain.{PlainView, accepted_of, checkpointed, no_rows, reply_to, after}
+use Rattle.crack_plain.specs.Plain.{PlainView, accepted_of, checkpointed_table, no_rows, reply_to, after}
 use Rattle.crack_plain.specs.Watching.{AreNumbersOf}
 use Rattle.crack_plain.specs.declared.statistics.Statistics.{Statistics}
 use Rattle.crack_part.specs.Parts.{Part, table_of, statistics_of}
@@ -69,15 +69,15 @@ IsOutcomeAt bounds splits tables part command outcome = IsOutcome bounds (keys_o
 
 -- the plain table of a partition without rows that has answered nothing
 abbrev pub fresh_table : PlainView
-fresh_table = record { state = no_rows; folded = 0; since = 0 }
+fresh_table = record { state = no_rows; checkpointed = 0; since = 0 }
 
 -- a plain table after an answered command: its rows, and one more command
 abbrev pub table_after : PlainView → Command → PlainView
-table_after table command = record { state = after table.state command; folded = table.folded; since = table.since + 1 }
+table_after table command = record { state = after table.state command; checkpointed = table.checkpointed; since = table.since + 1 }
 
 -- the plain table to which the next command is added: after a checkpoint, if one is due
 abbrev pub upkept_by : Bounds → PlainView → PlainView
-upkept_by bounds table = if bounds.due table then checkpointed table else table
+upkept_by bounds table = if bounds.due table then checkpointed_table table else table
 
 -- the plain tables after an outcome of one of them: that one is changed; a refusal leaves all unchanged
 abbrev pub changed_at : {X : Type 0} → (PlainView → PlainView) → List PlainView → ℕ → Result X Refusal → List PlainView
@@ -110,15 +110,15 @@ expected_statistics (Some part) = Ok (statistics_of part)
 
 -- the outcome of asking for a checkpoint: `NoSuchPartition` if there is none, else how many commands it had
 -- accepted since its previous one, or `OutOfMemory`
-abbrev pub IsFoldOutcome : Option PlainView → Result ℕ Refusal → Type 0
-IsFoldOutcome None outcome = outcome ≡ Err NoSuchPartition
-IsFoldOutcome (Some table) outcome = (outcome ≡ Ok table.since) ⊎ (outcome ≡ Err OutOfMemory)
+abbrev pub IsCheckpointOutcome : Option PlainView → Result ℕ Refusal → Type 0
+IsCheckpointOutcome None outcome = outcome ≡ Err NoSuchPartition
+IsCheckpointOutcome (Some table) outcome = (outcome ≡ Ok table.since) ⊎ (outcome ≡ Err OutOfMemory)
 
 -- the outcome of a checkpoint that takes no memory: `NoSuchPartition` if there is none, else how many commands it
 -- had accepted since its previous one
-abbrev pub expected_fold : Option PlainView → Result ℕ Refusal
-expected_fold None = Err NoSuchPartition
-expected_fold (Some table) = Ok table.since
+abbrev pub expected_checkpoint : Option PlainView → Result ℕ Refusal
+expected_checkpoint None = Err NoSuchPartition
+expected_checkpoint (Some table) = Ok table.since
 
 -- the plain tables of partitions
 abbrev pub tables_of : List Part → List PlainView

@@ -7,9 +7,9 @@ use Rattle.crack_plain.specs.Plain.{PlainView}
 use Rattle.crack_part.specs.Upkeep.{is_due}
 use Rattle.crack_core.specs.Jobs.{after_job, after_jobs}
 use Rattle.crack_core.specs.declared.step.Job.{Job}
-use Rattle.crack_core.specs.declared.step.Job.TheVariants.{Perform, Fold}
+use Rattle.crack_core.specs.declared.step.Job.TheVariants.{Perform, Checkpoint}
 use Rattle.crack_core.specs.declared.step.Done.{Done}
-use Rattle.crack_core.specs.declared.step.Done.TheVariants.{Replied, Folded}
+use Rattle.crack_core.specs.declared.step.Done.TheVariants.{Replied, CheckpointMade}
 
 -- these limits, with checkpoints only on request
 abbrev pub on_request : Limits → Limits
@@ -22,19 +22,19 @@ is_kept_up limits part (Perform step) (Ok (Replied reply)) table = step.part == 
 is_kept_up limits part job result table = false
 
 -- these jobs, with each checkpoint that upkeep made of this partition inserted as a job before its step
-abbrev pub with_folds : Limits → ℕ → List Job → List (Result Done Refusal) → PlainView → List Job
-with_folds limits part (job ∷ jobs) (result ∷ results) table =
-    (if is_kept_up limits part job result table then Fold part ∷ job ∷ [] else job ∷ []) ++ with_folds limits part jobs results (after_job limits part job result table)
-with_folds limits part _ _ table = []
+abbrev pub with_checkpoints : Limits → ℕ → List Job → List (Result Done Refusal) → PlainView → List Job
+with_checkpoints limits part (job ∷ jobs) (result ∷ results) table =
+    (if is_kept_up limits part job result table then Checkpoint part ∷ job ∷ [] else job ∷ []) ++ with_checkpoints limits part jobs results (after_job limits part job result table)
+with_checkpoints limits part _ _ table = []
 
--- the outcomes of the jobs that `with_folds` gives: those of these jobs, and before a job that of its inserted
+-- the outcomes of the jobs that `with_checkpoints` gives: those of these jobs, and before a job that of its inserted
 -- checkpoint
-abbrev pub with_folded : Limits → ℕ → List Job → List (Result Done Refusal) → PlainView → List (Result Done Refusal)
-with_folded limits part (job ∷ jobs) (result ∷ results) table =
-    (if is_kept_up limits part job result table then Ok (Folded table.since) ∷ result ∷ [] else result ∷ []) ++ with_folded limits part jobs results (after_job limits part job result table)
-with_folded limits part _ _ table = []
+abbrev pub with_checkpoints_made : Limits → ℕ → List Job → List (Result Done Refusal) → PlainView → List (Result Done Refusal)
+with_checkpoints_made limits part (job ∷ jobs) (result ∷ results) table =
+    (if is_kept_up limits part job result table then Ok (CheckpointMade table.since) ∷ result ∷ [] else result ∷ []) ++ with_checkpoints_made limits part jobs results (after_job limits part job result table)
+with_checkpoints_made limits part _ _ table = []
 
 -- the plain table of a partition under automatic upkeep is that under upkeep on request, if each of these
 -- checkpoints is requested
 abbrev pub IsKeptUp : Limits → ℕ → List Job → List (Result Done Refusal) → PlainView → Type 0
-IsKeptUp limits part jobs results table = after_jobs limits part jobs results table ≡ after_jobs (on_request limits) part (with_folds limits part jobs results table) (with_folded limits part jobs results table) table
+IsKeptUp limits part jobs results table = after_jobs limits part jobs results table ≡ after_jobs (on_request limits) part (with_checkpoints limits part jobs results table) (with_checkpoints_made limits part jobs results table) table

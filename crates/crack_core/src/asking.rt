@@ -141,7 +141,7 @@ impl Core {
         ensures few { IfOk result (λ replies. length replies.items ≤ 64) }
         ensures opened { (self.new.splits ≡ self.old.splits) × (self.new.limits ≡ self.old.limits) }
     {
-        self.facts();
+        self.recall_invariant();
         match self.parts_of(range) {
             Ok(parts) => ask_parts(*parts.allocator(), self, policy, query, parts.as_slice()),
             Err(refusal) => Err(refusal),
@@ -161,7 +161,7 @@ impl AskPart for Core {
             command,
             policy,
         });
-        self.facts();
+        self.recall_invariant();
         answered
     }
 }

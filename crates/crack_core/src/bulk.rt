@@ -14,29 +14,29 @@ use crack_row::{
 
 /// How far a list of calls has come.
 #[derive(Clone, Copy, Debug)]
-pub struct Progress {
+pub struct BulkProgress {
     /// How many calls were answered, from the first on.
     pub done: u64,
     /// Why the call after them was refused, if one was.
     pub refusal: Option<Refusal>,
 }
 
-impl Progress {
+impl BulkProgress {
     /// All of `count` calls were answered.
-    fn whole(count: usize) -> Progress
+    fn whole(count: usize) -> BulkProgress
         ensures { result ≡ record { done = count; refusal = None } }
     {
-        Progress {
+        BulkProgress {
             done: count as u64,
             refusal: None,
         }
     }
 
     /// `done` calls were answered, and the next one was refused.
-    fn stopped(done: usize, refusal: Refusal) -> Progress
+    fn stopped(done: usize, refusal: Refusal) -> BulkProgress
         ensures { result ≡ record { done = done; refusal = Some refusal } }
     {
-        Progress {
+        BulkProgress {
             done: done as u64,
             refusal: Some(refusal),
         }
@@ -99,7 +99,7 @@ impl Core {
         payloads: &[PayloadNumber],
         parts: &mut [u32],
         serials: &mut [u64],
-    ) -> Progress
+    ) -> BulkProgress
         requires payloads { length payloads.now ≡ length keys.now }
         requires parts { length parts.old ≡ length keys.now }
         requires serials { length serials.old ≡ length keys.now }
@@ -114,10 +114,10 @@ impl Core {
         'runs: while done < keys.len() {
             match self.insert_next(keys, payloads, parts, serials, done) {
                 Ok(count) => done += count,
-                Err(refusal) => return Progress::stopped(done, refusal),
+                Err(refusal) => return BulkProgress::stopped(done, refusal),
             }
         }
-        Progress::whole(keys.len())
+        BulkProgress::whole(keys.len())
     }
 
     /// Inserts rows from this index on, as many as a run takes, or one if a run takes none, and writes their row
@@ -188,7 +188,7 @@ impl Core {
 
     /// Deletes rows, in order, as `delete` does, and writes 1 for each that existed and 0 for each that didn't.
     /// Stops at the first refusal. Each costs what `delete` does.
-    pub fn delete_many(&mut self, parts: &[u32], serials: &[u64], gone: &mut [u8]) -> Progress
+    pub fn delete_many(&mut self, parts: &[u32], serials: &[u64], gone: &mut [u8]) -> BulkProgress
         requires serials { length serials.now ≡ length parts.now }
         requires gone { length gone.old ≡ length parts.now }
         ensures deletes { Went (DeletesAt self.old.limits self.old.splits parts.now serials.now gone.new)
@@ -201,11 +201,11 @@ impl Core {
             let row = row_of(parts[i], serials[i]);
             match self.delete(row) {
                 Ok(went) => gone[i] = flag(went.is_some()),
-                Err(refusal) => return Progress::stopped(i, refusal),
+                Err(refusal) => return BulkProgress::stopped(i, refusal),
             }
         }
         self.keep_reads(seen);
-        Progress::whole(parts.len())
+        BulkProgress::whole(parts.len())
     }
 
     /// Replaces the keys and the payloads of rows, in order, as `update` does, and writes 1 for each row that
@@ -217,7 +217,7 @@ impl Core {
         keys: &[KeyNumber],
         payloads: &[PayloadNumber],
         found: &mut [u8],
-    ) -> Progress
+    ) -> BulkProgress
         requires serials { length serials.now ≡ length parts.now }
         requires keys { length keys.now ≡ length parts.now }
         requires payloads { length payloads.now ≡ length parts.now }
@@ -234,11 +234,11 @@ impl Core {
             let payload = payloads[i];
             match self.update(row, key, Payload::from_number(payload)) {
                 Ok(is_there) => found[i] = flag(is_there),
-                Err(refusal) => return Progress::stopped(i, refusal),
+                Err(refusal) => return BulkProgress::stopped(i, refusal),
             }
         }
         self.keep_reads(seen);
-        Progress::whole(parts.len())
+        BulkProgress::whole(parts.len())
     }
 
     /// Counts the rows of each range, from its first key to its last, in order, as `count_keys` does. Stops at the
@@ -249,7 +249,7 @@ impl Core {
         lasts: &[KeyNumber],
         policy: Policy,
         counts: &mut [u64],
-    ) -> Progress
+    ) -> BulkProgress
         requires lasts { length lasts.now ≡ length firsts.now }
         requires counts { length counts.old ≡ length firsts.now }
         ensures counts { Went (CountsAt self.old.limits self.old.splits policy firsts.now lasts.now counts.new)
@@ -259,10 +259,10 @@ impl Core {
         'each: for i in 0..firsts.len() {
             match self.count_keys(firsts[i], lasts[i], policy) {
                 Ok(count) => counts[i] = count,
-                Err(refusal) => return Progress::stopped(i, refusal),
+                Err(refusal) => return BulkProgress::stopped(i, refusal),
             }
         }
-        Progress::whole(firsts.len())
+        BulkProgress::whole(firsts.len())
     }
 
     /// Sums the payloads of each range, from its first key to its last, in order, as `sum_keys` does, and writes
@@ -274,7 +274,7 @@ impl Core {
         policy: Policy,
         lows: &mut [u64],
         highs: &mut [i64],
-    ) -> Progress
+    ) -> BulkProgress
         requires lasts { length lasts.now ≡ length firsts.now }
         requires lows { length lows.old ≡ length firsts.now }
         requires highs { length highs.old ≡ length firsts.now }
@@ -289,10 +289,10 @@ impl Core {
                     lows[i] = halves.0;
                     highs[i] = halves.1;
                 }
-                Err(refusal) => return Progress::stopped(i, refusal),
+                Err(refusal) => return BulkProgress::stopped(i, refusal),
             }
         }
-        Progress::whole(firsts.len())
+        BulkProgress::whole(firsts.len())
     }
 }
 

@@ -4,17 +4,17 @@ ghost use Rattle.std.specs.Prelude.{None, Some, IfOk, IfErr, OnErr, OnOk, Ok, Er
 ghost use Rattle.crack_row.specs.Limits.{of_history};
 ghost use Rattle.crack_row.specs.declared.Bound.{Bound};
 ghost use Rattle.crack_row.specs.declared.limit.Limits.{Limits};
-ghost use Rattle.crack_plain.specs.Plain.{PlainView, IsNumbered, IsSmall, checkpointed};
+ghost use Rattle.crack_plain.specs.Plain.{PlainView, IsNumbered, IsSmall, checkpointed_table};
 ghost use Rattle.crack_part.specs.Parts.{Part, table_of, Serves, Spares};
 ghost use Rattle.crack_core.specs.Routes.{AreSplits, keys_of_part, route, parts_of};
 ghost use Rattle.crack_core.specs.Opening.{opening_fault, MayFault, AreParts};
-ghost use Rattle.crack_core.specs.Steps.{bounds_from, IsOutcomeAt, IsLayoutOutcome, expected_fold, tables_of};
+ghost use Rattle.crack_core.specs.Steps.{bounds_from, IsOutcomeAt, IsLayoutOutcome, expected_checkpoint, tables_of};
 ghost use Rattle.crack_core.specs.Steps.{IsStatisticsOutcome, expected_statistics};
 ghost use Rattle.crack_core.specs.Steps.{mapped, fresh_table, tables_after, changed_at, accepted_by};
 ghost use Rattle.crack_store.specs.Inside.{no_cells, IsLayoutOf};
 ghost use Rattle.crack_core.specs.Cores.{IsCore};
 ghost use Rattle.crack_core.specs.Jobs.{KeepsJobs, AtPart, AreExpectedOutcomes, IsJobOutcome};
-ghost use Rattle.crack_core.specs.Jobs.{IsFoldedAt, Does, DoesAll};
+ghost use Rattle.crack_core.specs.Jobs.{IsCheckpointedAt, Does, DoesAll};
 
 use crate::opening::{limits_fault, open_partitions, splits_fault};
 use crate::routes;
@@ -112,7 +112,7 @@ impl Core {
     }
 
     /// States the invariant of every core, and does nothing.
-    pub fn facts(&self)
+    pub fn recall_invariant(&self)
         ensures { IsCore self.now }
     {
         let _ = &self.partitions;
@@ -229,14 +229,15 @@ impl Core {
     /// that count restarts at 0. Cracks and merges nothing, takes no memory, and changes no later reply. Refused
     /// with `NoSuchPartition` if there is no such partition; then nothing has changed.
     pub fn checkpoint(&mut self, part: u32) -> Result<u64, Refusal>
-        ensures outcome { result ≡ expected_fold (slice_get (tables_of self.old.parts) part) }
-        ensures after { tables_of self.new.parts ≡ changed_at checkpointed (tables_of self.old.parts) part result }
-        ensures folds { OnOk result (IsFoldedAt part self.old.parts self.new.parts) }
+        ensures outcome { result ≡ expected_checkpoint (slice_get (tables_of self.old.parts) part) }
+        ensures after { tables_of self.new.parts ≡ changed_at checkpointed_table (tables_of self.old.parts)
+            part result }
+        ensures checkpoints { OnOk result (IsCheckpointedAt part self.old.parts self.new.parts) }
         ensures accepted { accepted_by self.new.parts ≡ accepted_by self.old.parts }
         ensures opened { (self.new.splits ≡ self.old.splits) × (self.new.limits ≡ self.old.limits) }
         ensures same { OnErr result (self.new ≡ self.old) }
     {
-        fold_at(&mut self.partitions, part)
+        checkpoint_at(&mut self.partitions, part)
     }
 
     /// Does these jobs in order, and returns the outcome of each. A refused job leaves what `step` and `checkpoint`
@@ -266,7 +267,7 @@ impl Core {
     {
         let mut accepted = 0;
         for partition in &self.partitions {
-            partition.facts();
+            partition.recall_invariant();
             accepted += partition.accepted();
         }
         accepted
@@ -302,7 +303,7 @@ fn ask_at(partitions: &mut [Partition], step: Step) -> Result<Reply, Refusal>
     }
     let partition = &mut partitions[part];
     let answered = partition.apply(step.command, step.policy);
-    partition.facts();
+    partition.recall_invariant();
     answered
 }
 
@@ -330,12 +331,12 @@ fn run_all(partitions: &mut [Partition], steps: &[Step], results: &mut Vec<Resul
 
 /// Makes a checkpoint of one partition, and returns how many commands it had accepted since its previous one.
 /// Refused with `NoSuchPartition` if there is no such partition.
-fn fold_at(partitions: &mut [Partition], part: u32) -> Result<u64, Refusal>
-    ensures outcome { result ≡ expected_fold (slice_get (tables_of partitions.old) part) }
-    ensures after { tables_of partitions.new ≡ changed_at checkpointed (tables_of partitions.old) part result }
-    ensures folds { OnOk result (IsFoldedAt part partitions.old partitions.new) }
+fn checkpoint_at(partitions: &mut [Partition], part: u32) -> Result<u64, Refusal>
+    ensures outcome { result ≡ expected_checkpoint (slice_get (tables_of partitions.old) part) }
+    ensures after { tables_of partitions.new ≡ changed_at checkpointed_table (tables_of partitions.old) part result }
+    ensures checkpoints { OnOk result (IsCheckpointedAt part partitions.old partitions.new) }
     ensures kept { (limits : Limits) →
-        KeepsJobs limits (tables_of partitions.old) (Job.Fold part ∷ []) (mapped Done.Folded result ∷ [])
+        KeepsJobs limits (tables_of partitions.old) (Job.Checkpoint part ∷ []) (mapped Done.CheckpointMade result ∷ [])
         (tables_of partitions.new) }
     ensures accepted { accepted_by partitions.new ≡ accepted_by partitions.old }
     ensures parts { (splits : List Bound) (limits : Limits) → AreParts splits limits partitions.old →
@@ -347,9 +348,9 @@ fn fold_at(partitions: &mut [Partition], part: u32) -> Result<u64, Refusal>
         return Err(Refusal::NoSuchPartition);
     }
     let partition = &mut partitions[number];
-    let folded = partition.checkpoint();
-    partition.facts();
-    Ok(folded)
+    let checkpointed = partition.checkpoint();
+    partition.recall_invariant();
+    Ok(checkpointed)
 }
 
 /// Does one job: performs a step, or makes a checkpoint. Refused as `Core::step` and `Core::checkpoint` are.
@@ -365,7 +366,7 @@ fn do_job(partitions: &mut [Partition], job: Job) -> Result<Done, Refusal>
 {
     match job {
         Job::Perform(step) => performed(ask_at(partitions, step)),
-        Job::Fold(part) => folding(fold_at(partitions, part)),
+        Job::Checkpoint(part) => checkpoint_done(checkpoint_at(partitions, part)),
     }
 }
 
@@ -380,11 +381,11 @@ fn performed(answered: Result<Reply, Refusal>) -> Result<Done, Refusal>
 }
 
 /// The outcome of a checkpoint, as the outcome of its job.
-fn folding(folded: Result<u64, Refusal>) -> Result<Done, Refusal>
-    ensures { result ≡ mapped Done.Folded folded }
+fn checkpoint_done(checkpointed: Result<u64, Refusal>) -> Result<Done, Refusal>
+    ensures { result ≡ mapped Done.CheckpointMade checkpointed }
 {
-    match folded {
-        Ok(count) => Ok(Done::Folded(count)),
+    match checkpointed {
+        Ok(count) => Ok(Done::CheckpointMade(count)),
         Err(refusal) => Err(refusal),
     }
 }

@@ -14,7 +14,7 @@ pub mod turns;
 pub mod upkeep;
 
 pub use asking::Query;
-pub use bulk::{Progress, halves};
+pub use bulk::{BulkProgress, halves};
 pub use cores::Core;
 pub use opening::{limits_fault, open_partitions, splits_fault};
 pub use routes::{keys_of_part, only_part, parts_of, route};

@@ -57,7 +57,7 @@ pub fn open_partitions(
     let mut parts = Vec::with_capacity(alloc, splits.len() + 1)?;
     for part in 0..splits.len() + 1 {
         let partition = Partition::open_with(alloc, keys_of_part(splits, part), limits)?;
-        partition.facts();
+        partition.recall_invariant();
         parts.push(partition)?;
     }
     Ok(parts)

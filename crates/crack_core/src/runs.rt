@@ -69,7 +69,7 @@ fn run_at(
     let partition = &mut partitions[part as usize];
     let first = partition.insertions();
     let inserted = partition.insert_run(keys, payloads);
-    partition.facts();
+    partition.recall_invariant();
     match inserted {
         Ok(count) => Ok(Run { part, first, count }),
         Err(refusal) => Err(refusal),

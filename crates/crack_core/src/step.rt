@@ -16,7 +16,7 @@ pub struct Step {
 ///
 /// ```
 /// if let Statement::Checkpoint(part) = statement {
-///     return Job::Fold(part);
+///     return Job::Checkpoint(part);
 /// }
 /// let command = command_of(statement).expect(rt, "a command");
 /// Job::Perform(Step {
@@ -32,7 +32,7 @@ pub enum Job {
     /// Perform a step.
     Perform(Step),
     /// Make a checkpoint of the partition with this number.
-    Fold(u32),
+    Checkpoint(u32),
 }
 
 /// What a job that wasn't refused has done.
@@ -45,7 +45,7 @@ pub enum Job {
 ///         let reply = reply.copy(alloc).expect(rt, "memory");
 ///         add_reply(rt, &mut text, 0, reply);
 ///     }
-///     Ok(Done::Folded(count)) => add_folded(rt, &mut text, *count),
+///     Ok(Done::CheckpointMade(count)) => add_checkpoint(rt, &mut text, *count),
 ///     Err(refusal) => add_refusal(rt, &mut text, refusal),
 /// }
 /// ```
@@ -54,5 +54,5 @@ pub enum Done {
     /// A step was performed, with this reply.
     Replied(Reply),
     /// A checkpoint was made: how many commands the partition had accepted since the one before.
-    Folded(u64),
+    CheckpointMade(u64),
 }

@@ -14,5 +14,5 @@ pub fn upkeep_is_checkpoints(core: &Core)
     ensures { (part : ℕ) (jobs : List Job) (results : List (Result Done Refusal)) (table : PlainView) →
         IsKeptUp core.now.limits part jobs results table }
 {
-    core.facts();
+    core.recall_invariant();
 }

@@ -12,7 +12,7 @@ use Rattle.crack_row.specs.declared.command.Reply.{Reply}
 use Rattle.crack_row.specs.declared.command.Reply.TheVariants.{Rows}
 use Rattle.crack_row.specs.declared.refusal.Refusal.{Refusal}
 use Rattle.crack_row.specs.declared.refusal.Refusal.TheVariants.{OutOfMemory, NoCell}
-use Rattle.crack_plain.specs.Plain.{PlainView, checkpointed, rows_in}
+use Rattle.crack_plain.specs.Plain.{PlainView, checkpointed_table, rows_in}
 use Rattle.crack_core.specs.Routes.{keys_of_part}
 use Rattle.crack_part.specs.Refusals.{first_cause}
 use Rattle.crack_core.specs.Steps.{Bounds, unless, MayLackCell, IsOutcome, IsOutcomeAt, tables_after, table_after, upkept_by, fresh_table}
@@ -157,7 +157,7 @@ index_there (t ∷ tables) (suc i) table other e = index_there tables i table ot
 pub asked-after : (bounds : Bounds) (table : PlainView) (keys : Range) → table_after (upkept_by bounds table) (Select keys) ≡ after_listing bounds table
 asked-after bounds table keys = by_test (bounds.due table)
   where
-    by_test : (b : Bool) → table_after (cond b (checkpointed table) table) (Select keys) ≡ record { state = table.state; folded = (cond b (checkpointed table) table).folded; since = (cond b (checkpointed table) table).since + 1 }
+    by_test : (b : Bool) → table_after (cond b (checkpointed_table table) table) (Select keys) ≡ record { state = table.state; checkpointed = (cond b (checkpointed_table table) table).checkpointed; since = (cond b (checkpointed_table table) table).since + 1 }
     by_test true = refl
     by_test false = refl
 

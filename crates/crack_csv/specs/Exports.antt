@@ -29,7 +29,7 @@ rows_from splits part (table ∷ tables) = rows_in (keys_of_part splits part) ta
 -- a partition that listed its rows: they stay as they were, and its history has one more entry, after the checkpoint
 -- that was due
 abbrev pub after_listing : Bounds → PlainView → PlainView
-after_listing bounds table = record { state = table.state; folded = (upkept_by bounds table).folded; since = (upkept_by bounds table).since + 1 }
+after_listing bounds table = record { state = table.state; checkpointed = (upkept_by bounds table).checkpointed; since = (upkept_by bounds table).since + 1 }
 
 -- The header and a record for each row are written, by rising partition and within a partition by rising serial.
 pub record IsExported (bounds : Bounds) (splits : List Bound) (tables : List PlainView) (count : ℕ) (left : Option (List PlainView)) (out out' : Option (List ℕ)) : Type 0 where

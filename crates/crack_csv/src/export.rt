@@ -73,7 +73,7 @@ pub fn leaves_no_row_out(core: &Core)
     ensures { rows_from core.now.splits 0 (tables_of core.now.parts) ≡
         flat_map (λ (table : PlainView). table.state.rows) (tables_of core.now.parts) }
 {
-    core.facts();
+    core.recall_invariant();
 }
 
 /// Lists all rows of one partition, writes a record for each, and returns how many there are. Refused as the desk

@@ -7,19 +7,19 @@ use Rattle.std.proofs.lemmas.List.Elements.{All-head, All-tail, All-weaker, All-
 use Rattle.crack_row.specs.declared.InnerBound.{InnerBound}
 use Rattle.crack_index.specs.declared.mark.Mark.{Mark}
 use Rattle.crack_index.specs.Marks.{HasBound}
-use Rattle.crack_index.specs.Passes.{Progress, are_few, met, left_behind, next_few}
+use Rattle.crack_index.specs.Passes.{PassProgress, are_few, met, left_behind, next_few}
 use Rattle.crack_index.proofs.MarkLaws.{HasBound-mark}
 
 -- how a pass comes to a mark
-data Comes (len : ℕ) (p : Progress) (m : Mark) (ms : List Mark) : Type 0 where
+data Comes (len : ℕ) (p : PassProgress) (m : Mark) (ms : List Mark) : Type 0 where
   -- the bound stays, and it goes on
-  goes_on : (p' : Progress) → next_few len p (m ∷ ms) ≡ next_few len p' ms → Comes len p m ms
+  goes_on : (p' : PassProgress) → next_few len p (m ∷ ms) ≡ next_few len p' ms → Comes len p m ms
   -- it meets no more
   stops : next_few len p (m ∷ ms) ≡ (None, p) → Comes len p m ms
   -- it finds the bound
   finds : next_few len p (m ∷ ms) ≡ (Some m.bound, met m p) → Comes len p m ms
 
-comes : (len : ℕ) (p : Progress) (m : Mark) (ms : List Mark) → Comes len p m ms
+comes : (len : ℕ) (p : PassProgress) (m : Mark) (ms : List Mark) → Comes len p m ms
 comes len p m ms = elim (cases_lt p.after m.bound.0) [
   | inr before ↦ Comes.goes_on p (rw (le-leb m.bound.0 p.after before) refl)
   | inl ahead ↦ elim (cases_eq p.bounds 0) [
@@ -33,17 +33,17 @@ comes len p m ms = elim (cases_lt p.after m.bound.0) [
     by_size false many ahead more = Comes.goes_on (left_behind m (met m p)) (rw (ahead, more, many) refl)
 
 -- what it finds is one of the bounds
-next_few-one : (P : ℕ → Type 0) (len : ℕ) (p q : Progress) (b : InnerBound) (ms : List Mark) → All (λ (m : Mark). P m.bound.0) ms → next_few len p ms ≡ (Some b, q) → P b.0
-next_few-one P len p q b [] all is = absurd (let e : None ≡ Some b = ap (λ (x : Option InnerBound × Progress). x.0) is in cc)
+next_few-one : (P : ℕ → Type 0) (len : ℕ) (p q : PassProgress) (b : InnerBound) (ms : List Mark) → All (λ (m : Mark). P m.bound.0) ms → next_few len p ms ≡ (Some b, q) → P b.0
+next_few-one P len p q b [] all is = absurd (let e : None ≡ Some b = ap (λ (x : Option InnerBound × PassProgress). x.0) is in cc)
 next_few-one P len p q b (m ∷ ms) all is = elim (comes len p m ms) [
   | Comes.goes_on p' next ↦ next_few-one P len p' q b ms (All-tail (λ (x : Mark). P x.bound.0) m ms all) (sym next ∙ is)
-  | Comes.stops next ↦ absurd (let e : None ≡ Some b = ap (λ (x : Option InnerBound × Progress). x.0) (sym next ∙ is) in cc)
+  | Comes.stops next ↦ absurd (let e : None ≡ Some b = ap (λ (x : Option InnerBound × PassProgress). x.0) (sym next ∙ is) in cc)
   | Comes.finds next ↦
-      let e : Some m.bound ≡ Some b = ap (λ (x : Option InnerBound × Progress). x.0) (sym next ∙ is) in
+      let e : Some m.bound ≡ Some b = ap (λ (x : Option InnerBound × PassProgress). x.0) (sym next ∙ is) in
       let same : m.bound ≡ b = cc in
       subst (λ (x : InnerBound). P x.0) same (All-head (λ (x : Mark). P x.bound.0) m ms all)
 ]
 
-pub next_few-there : (len : ℕ) (p q : Progress) (found : Option InnerBound) (ms : List Mark) → (found, q) ≡ next_few len p ms → IfSome found (λ b. HasBound ms b.0)
+pub next_few-there : (len : ℕ) (p q : PassProgress) (found : Option InnerBound) (ms : List Mark) → (found, q) ≡ next_few len p ms → IfSome found (λ b. HasBound ms b.0)
 next_few-there len p q None ms is = tt
 next_few-there len p q (Some b) ms is = next_few-one (HasBound ms) len p q b ms (All-weaker (Contains ms) (λ (m : Mark). HasBound ms m.bound.0) (λ m there. HasBound-mark ms m there) ms (All-contains_itself ms)) (sym is)

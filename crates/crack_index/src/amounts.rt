@@ -4,7 +4,7 @@ ghost use Rattle.crack_row.specs.declared.TheConstants.{GREATEST_BOUND};
 ghost use Rattle.crack_index.specs.Sums.{IsKnown, both, later};
 ghost use Rattle.crack_index.specs.Cuts.{IsRest};
 
-use crate::source::Source;
+use crate::source::SumSource;
 use crate::sums::UNKNOWN;
 use crack_row::{BoundNumber, KeyNumber, KeyRange};
 
@@ -50,7 +50,7 @@ pub(crate) fn whole(lower: i128, upper: i128) -> i128
 }
 
 /// The source's sum of the keys from `low` up to but not including `high`, or `UNKNOWN`.
-pub(crate) fn asked<S: Source>(source: &S, low: BoundNumber, high: BoundNumber) -> i128
+pub(crate) fn asked<S: SumSource>(source: &S, low: BoundNumber, high: BoundNumber) -> i128
     ensures { IsKnown result → S.says source.now low high result }
 {
     let Ok(range) = KeyRange::new(low, high) else {
@@ -64,7 +64,7 @@ pub(crate) fn asked<S: Source>(source: &S, low: BoundNumber, high: BoundNumber) 
 
 /// Whether the part of a piece between `low` and `high` has more than three quarters of the piece's keys (from
 /// `start` up to but not including `next`), and the source prefers to sum the rest of the piece.
-pub(crate) fn prefers_rest<S: Source>(
+pub(crate) fn prefers_rest<S: SumSource>(
     source: &S,
     low: BoundNumber,
     high: BoundNumber,

@@ -10,7 +10,7 @@ ghost use Rattle.crack_index.specs.Marks.{Rising, Fits, HasBound, position_of, n
 ghost use Rattle.crack_index.specs.Marks.{with_mark, removed, raised, lowered_at, piece_at, pieces_from};
 ghost use Rattle.crack_index.specs.Passes.{pass_above, next_few};
 
-use crate::tree::{self, Link, Node};
+use crate::tree::{self, MarkNode, MarkTree};
 use crate::{Mark, Pass, Placer, Raiser, Visitor, lowering, raising, walk};
 use crack_row::{InnerBound, Key, KeyRange, PieceSize, Refusal};
 use std::alloc::Global;
@@ -34,8 +34,8 @@ pub struct Piece {
 /// more there is room.
 #[derive(Drop)]
 pub struct CrackerIndex {
-    root: Link,
-    spare: Vec<Box<Node>>,
+    root: MarkTree,
+    spare: Vec<Box<MarkNode>>,
     len: usize,
 }
 

@@ -18,6 +18,6 @@ mod walk;
 pub use index::{CrackerIndex, Piece};
 pub use mark::Mark;
 pub use pass::Pass;
-pub use source::Source;
+pub use source::SumSource;
 pub use sums::PieceSums;
 pub use visitor::{Placer, Raiser, Visitor};

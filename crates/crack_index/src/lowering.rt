@@ -5,12 +5,12 @@ ghost use Rattle.crack_index.specs.Keeps.{height_of};
 ghost use Rattle.crack_index.specs.Places.{Places};
 ghost use Rattle.crack_index.specs.Trees.{marks_in_tree};
 
-use crate::tree::{Link, Node};
+use crate::tree::{MarkNode, MarkTree};
 use crate::{Mark, Placer};
 
 /// Moves the marks of a tree, from the lowest up, to the places that the visitor returns, but none before the one
 /// below it or before `least`. Returns the place of the last, or `least` if there is none. O(marks).
-pub(crate) fn place_up<V: Placer>(link: &mut Link, least: usize, visitor: &mut V) -> usize
+pub(crate) fn place_up<V: Placer>(link: &mut MarkTree, least: usize, visitor: &mut V) -> usize
     requires ready { V.is_ready visitor.old }
     ensures places { Places V.places least (marks_in_tree link.old) visitor.old (marks_in_tree link.new) visitor.new
         result }
@@ -22,7 +22,7 @@ pub(crate) fn place_up<V: Placer>(link: &mut Link, least: usize, visitor: &mut V
     let Some(node) = link else {
         return least;
     };
-    let Node {
+    let MarkNode {
         mark,
         left,
         right,

@@ -8,7 +8,7 @@ ghost use Rattle.crack_index.specs.Trees.{marks_in_tree};
 ghost use Rattle.crack_index.specs.declared.mark.Mark.{Mark};
 
 use crate::Mark;
-use crate::tree::{Link, Node};
+use crate::tree::{MarkNode, MarkTree};
 use crack_row::{InnerBound, Key, KeyNumber};
 use std::marker::Model;
 
@@ -27,9 +27,9 @@ pub struct Pass {
 }
 
 impl Model for Pass {
-    ghost use Rattle.crack_index.specs.Passes.{Progress};
+    ghost use Rattle.crack_index.specs.Passes.{PassProgress};
 
-    ghost Value = { Progress };
+    ghost Value = { PassProgress };
 
     ghost view = { λ p. record { after = p.after; from = p.from; rows = p.rows; bounds = p.bounds } };
 }
@@ -62,7 +62,7 @@ impl Pass {
     /// The next bound whose two pieces hold few rows together, in a column of `len` rows, or `None` once the pass
     /// has ended. To go on with the pass, the caller must remove the bound. O(log marks), and a step for each
     /// bound that the pass meets.
-    pub(crate) fn next_few(&mut self, link: &Link, len: usize) -> Option<InnerBound>
+    pub(crate) fn next_few(&mut self, link: &MarkTree, len: usize) -> Option<InnerBound>
         ensures { (result, self.new) ≡ next_few len self.old (marks_in_tree link.now) }
     {
         let mut last = None;
@@ -119,7 +119,7 @@ impl Pass {
 
 /// Does the part of a pass that lies in this tree. `last` is the mark that the pass met last, if any. Returns
 /// whether the pass halted. O(log marks), and a step for each mark that it meets.
-fn meet_all(link: &Link, pass: &mut Pass, last: &mut Option<Mark>) -> bool
+fn meet_all(link: &MarkTree, pass: &mut Pass, last: &mut Option<Mark>) -> bool
     ensures found { (len : ℕ) (ms : List Mark) → AreAhead last.old pass.old (marks_in_tree link.now)
         → found_from len last.old pass.old (marks_in_tree link.now ++ ms) ≡ found_or result len last.new pass.new ms }
     ensures after { (bound : ℕ) → pass.old.after < bound → All (λ m. m.bound.0 < bound) (marks_in_tree link.now)
@@ -128,7 +128,7 @@ fn meet_all(link: &Link, pass: &mut Pass, last: &mut Option<Mark>) -> bool
     let Some(node) = link else {
         return false;
     };
-    let Node {
+    let MarkNode {
         mark,
         left,
         right,

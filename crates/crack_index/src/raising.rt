@@ -5,13 +5,13 @@ ghost use Rattle.crack_index.specs.Keeps.{height_of};
 ghost use Rattle.crack_index.specs.Raises.{Raises};
 ghost use Rattle.crack_index.specs.Trees.{marks_in_tree};
 
-use crate::tree::{Link, Node};
+use crate::tree::{MarkNode, MarkTree};
 use crate::{Mark, Raiser};
 
 /// Raises the marks of a tree, from the highest down, each as far as the visitor returns, but no farther than the
 /// mark above it rose, or than `most`. Returns how far the next mark below them may rise. O(marks that rise + log
 /// marks).
-pub(crate) fn raise_down<V: Raiser>(link: &mut Link, most: usize, visitor: &mut V) -> usize
+pub(crate) fn raise_down<V: Raiser>(link: &mut MarkTree, most: usize, visitor: &mut V) -> usize
     requires small { All (λ m. m.position + most ≤ usize.MAX) (marks_in_tree link.old) }
     requires ready { V.is_ready visitor.old }
     ensures raises { Raises V.rises most (reverse (marks_in_tree link.old)) visitor.old
@@ -28,7 +28,7 @@ pub(crate) fn raise_down<V: Raiser>(link: &mut Link, most: usize, visitor: &mut 
     let Some(node) = link else {
         return most;
     };
-    let Node {
+    let MarkNode {
         mark,
         left,
         right,

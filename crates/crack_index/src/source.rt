@@ -4,7 +4,7 @@ ghost use Rattle.std.specs.Prelude.{ℕ, ℤ, IfSome};
 use crack_row::KeyRange;
 
 /// A source of the sums of key ranges, such as a store of rows. It has no access to the pieces.
-pub trait Source {
+pub trait SumSource {
     /// What the source reports: this sum of the keys from the first number up to but not including the second.
     ghost says: { Self → ℕ → ℕ → ℤ → Type 0 };
 

@@ -16,23 +16,23 @@ use std::marker::Model;
 use std::mem;
 
 /// The start of a piece, and its sum.
-pub(crate) type Entry = (KeyNumber, i128);
+pub(crate) type PieceSum = (KeyNumber, i128);
 
 /// A tree of pieces, or `None` if there are no pieces.
-pub(crate) type Link = Option<Box<Node>>;
+pub(crate) type PieceTree = Option<Box<PieceNode>>;
 
 /// A piece, the trees of the pieces below and above it, and the total of all of them. Contracts see all pieces in
 /// order, and the height.
 #[derive(Drop)]
-pub(crate) struct Node {
-    entry: Entry,
+pub(crate) struct PieceNode {
+    entry: PieceSum,
     total: i128,
     height: u32,
-    left: Link,
-    right: Link,
+    left: PieceTree,
+    right: PieceTree,
 }
 
-impl Model for Node {
+impl Model for PieceNode {
     ghost use Rattle.std.specs.Prelude.{◌∷◌, ◌++◌, length};
     ghost use Rattle.crack_index.specs.SumTrees.{Summed, entries_in_tree};
     ghost use Rattle.crack_index.specs.SumKeeps.{IsSummed};
@@ -54,19 +54,19 @@ impl Model for Node {
 
 /// The parts of a node.
 #[derive(Drop)]
-struct Parts {
-    left: Link,
-    entry: Entry,
-    right: Link,
+struct PieceNodeParts {
+    left: PieceTree,
+    entry: PieceSum,
+    right: PieceTree,
 }
 
-impl Node {
+impl PieceNode {
     /// Makes a tree of one piece.
-    pub(crate) fn leaf(entry: Entry) -> Node
+    pub(crate) fn leaf(entry: PieceSum) -> PieceNode
         ensures entries { result.entries ≡ entry ∷ [] }
         ensures height { result.height ≡ 1 }
     {
-        Node {
+        PieceNode {
             entry,
             total: entry.1,
             height: 1,
@@ -76,7 +76,7 @@ impl Node {
     }
 
     /// Takes the node apart. The node is left without children.
-    fn open(&mut self) -> Parts
+    fn open(&mut self) -> PieceNodeParts
         ensures entries { self.old.entries ≡ entries_in_tree result.left ++ result.entry ∷ entries_in_tree
             result.right }
         ensures high { self.old.height ≡ max (levels_of result.left) (levels_of result.right) + 1 }
@@ -84,18 +84,18 @@ impl Node {
         ensures tall { IsTall (length self.old.entries) self.old.height }
     {
         let kept = self.entry;
-        let Node {
+        let PieceNode {
             entry,
             left,
             right,
             ..
-        } = mem::replace(self, Node::leaf(kept));
-        Parts { left, entry, right }
+        } = mem::replace(self, PieceNode::leaf(kept));
+        PieceNodeParts { left, entry, right }
     }
 }
 
 /// The height of a tree, 0 if it is empty. O(1).
-fn height(link: &Link) -> u32
+fn height(link: &PieceTree) -> u32
     ensures value { result ≡ levels_of link.now }
     ensures tall { IsTall (length (entries_in_tree link.now)) (levels_of link.now) }
 {
@@ -107,7 +107,7 @@ fn height(link: &Link) -> u32
 
 /// The total of a tree's sums, 0 if it is empty. O(1).
 #[inline]
-fn total(link: &Link) -> i128
+fn total(link: &PieceTree) -> i128
     ensures { IsTotal (entries_in_tree link.now) result }
 {
     match link {
@@ -118,21 +118,21 @@ fn total(link: &Link) -> i128
 
 /// The total of two subtrees and the piece between them, or `UNKNOWN`. O(1).
 #[inline]
-fn total_over(left: &Link, sum: i128, right: &Link) -> i128
+fn total_over(left: &PieceTree, sum: i128, right: &PieceTree) -> i128
     ensures { (start : ℕ) → IsTotal (entries_in_tree left.now ++ (start, sum) ∷ entries_in_tree right.now) result }
 {
     amounts::whole(amounts::whole(total(left), sum), total(right))
 }
 
 /// The piece that contains the key, if there is one. O(log pieces), one comparison per level.
-pub(crate) fn last_at(link: &Link, key: KeyNumber) -> Option<Entry>
+pub(crate) fn last_at(link: &PieceTree, key: KeyNumber) -> Option<PieceSum>
     requires { StartsRise (entries_in_tree link.now) }
     ensures { result ≡ sum_piece_at key (entries_in_tree link.now) }
 {
     let mut found = None;
     let mut here = link;
     'down: while let Some(node) = here {
-        let Node {
+        let PieceNode {
             entry,
             left,
             right,
@@ -150,14 +150,14 @@ pub(crate) fn last_at(link: &Link, key: KeyNumber) -> Option<Entry>
 
 /// The start of the first piece that begins above the key, or `GREATEST_BOUND` if there is none. O(log pieces), one
 /// comparison per level.
-pub(crate) fn next_above(link: &Link, key: KeyNumber) -> BoundNumber
+pub(crate) fn next_above(link: &PieceTree, key: KeyNumber) -> BoundNumber
     requires { StartsRise (entries_in_tree link.now) }
     ensures { result ≡ next_at key (entries_in_tree link.now) }
 {
     let mut found = GREATEST_BOUND;
     let mut here = link;
     'down: while let Some(node) = here {
-        let Node {
+        let PieceNode {
             entry,
             left,
             right,
@@ -175,13 +175,13 @@ pub(crate) fn next_above(link: &Link, key: KeyNumber) -> BoundNumber
 
 /// The total of the pieces that begin at keys from `first` to `last`, or `UNKNOWN`. O(log pieces), one step per
 /// level.
-pub(crate) fn total_between(link: &Link, first: KeyNumber, last: KeyNumber) -> i128
+pub(crate) fn total_between(link: &PieceTree, first: KeyNumber, last: KeyNumber) -> i128
     requires { StartsRise (entries_in_tree link.now) }
     ensures { IsTotal (inside (span first last) (entries_in_tree link.now)) result }
 {
     let mut here = link;
     'down: while let Some(node) = here {
-        let Node {
+        let PieceNode {
             entry,
             left,
             right,
@@ -200,14 +200,14 @@ pub(crate) fn total_between(link: &Link, first: KeyNumber, last: KeyNumber) -> i
 }
 
 /// The total of the pieces that begin at or above `first`, or `UNKNOWN`. O(log pieces), one step per level.
-fn total_from(link: &Link, first: KeyNumber) -> i128
+fn total_from(link: &PieceTree, first: KeyNumber) -> i128
     requires { StartsRise (entries_in_tree link.now) }
     ensures { IsTotal (inside (record { low = first; high = GREATEST_BOUND }) (entries_in_tree link.now)) result }
 {
     let mut sum = 0;
     let mut here = link;
     'down: while let Some(node) = here {
-        let Node {
+        let PieceNode {
             entry,
             left,
             right,
@@ -224,14 +224,14 @@ fn total_from(link: &Link, first: KeyNumber) -> i128
 }
 
 /// The total of the pieces that begin at or below `last`, or `UNKNOWN`. O(log pieces), one step per level.
-fn total_to(link: &Link, last: KeyNumber) -> i128
+fn total_to(link: &PieceTree, last: KeyNumber) -> i128
     requires { StartsRise (entries_in_tree link.now) }
     ensures { IsTotal (inside (span 0 last) (entries_in_tree link.now)) result }
 {
     let mut sum = 0;
     let mut here = link;
     'down: while let Some(node) = here {
-        let Node {
+        let PieceNode {
             entry,
             left,
             right,
@@ -249,14 +249,14 @@ fn total_to(link: &Link, last: KeyNumber) -> i128
 
 /// The start of the first piece that begins at or above `first` and whose sum is unknown, if there is one.
 /// O(log pieces): subtrees with a known total aren't searched.
-pub(crate) fn first_unknown(link: &Link, first: KeyNumber) -> Option<KeyNumber>
+pub(crate) fn first_unknown(link: &PieceTree, first: KeyNumber) -> Option<KeyNumber>
     requires { StartsRise (entries_in_tree link.now) }
     ensures { result ≡ unknown_from first (entries_in_tree link.now) }
 {
     let Some(node) = link else {
         return None;
     };
-    let Node {
+    let PieceNode {
         entry,
         total,
         left,
@@ -280,7 +280,7 @@ pub(crate) fn first_unknown(link: &Link, first: KeyNumber) -> Option<KeyNumber>
 
 /// Inserts a piece into the tree, in the node that is passed in. No piece may begin at its key yet. O(log pieces),
 /// takes no memory.
-pub(crate) fn insert(link: Link, entry: Entry, mut node: Box<Node>) -> Box<Node>
+pub(crate) fn insert(link: PieceTree, entry: PieceSum, mut node: Box<PieceNode>) -> Box<PieceNode>
     requires rises { StartsRise (entries_in_tree link) }
     requires apart { IsEnd entry.0 (entries_in_tree link) → ⊥ }
     requires few { length (entries_in_tree link) < 2 ^ 64 }
@@ -289,7 +289,7 @@ pub(crate) fn insert(link: Link, entry: Entry, mut node: Box<Node>) -> Box<Node>
     ensures one_higher { result.value.height ≤ levels_of link + 1 }
 {
     let Some(mut here) = link else {
-        *node = Node::leaf(entry);
+        *node = PieceNode::leaf(entry);
         return node;
     };
     let parts = here.open();
@@ -303,7 +303,7 @@ pub(crate) fn insert(link: Link, entry: Entry, mut node: Box<Node>) -> Box<Node>
 }
 
 /// Sets the sum of the piece that begins at the key, if there is one. O(log pieces), takes no memory.
-pub(crate) fn give(link: &mut Link, key: KeyNumber, sum: i128)
+pub(crate) fn give(link: &mut PieceTree, key: KeyNumber, sum: i128)
     requires { StartsRise (entries_in_tree link.old) }
     ensures entries { entries_in_tree link.new ≡ given key sum (entries_in_tree link.old) }
     ensures height { levels_of link.new ≡ levels_of link.old }
@@ -311,7 +311,7 @@ pub(crate) fn give(link: &mut Link, key: KeyNumber, sum: i128)
     let Some(node) = link else {
         return;
     };
-    let Node {
+    let PieceNode {
         entry,
         total,
         left,
@@ -330,7 +330,7 @@ pub(crate) fn give(link: &mut Link, key: KeyNumber, sum: i128)
 
 /// Makes a tree of two subtrees and the piece between them, in this node. One subtree may be two levels higher than
 /// the other; then the tree is rotated. O(1).
-fn join(left: Link, entry: Entry, right: Link, node: Box<Node>) -> Box<Node>
+fn join(left: PieceTree, entry: PieceSum, right: PieceTree, node: Box<PieceNode>) -> Box<PieceNode>
     requires near { DifferByAtMost 2 (levels_of left) (levels_of right) }
     requires fits { max (levels_of left) (levels_of right) ≤ 2 ^ 31 }
     ensures entries { result.value.entries ≡ entries_in_tree left ++ entry ∷ entries_in_tree right }
@@ -346,7 +346,12 @@ fn join(left: Link, entry: Entry, right: Link, node: Box<Node>) -> Box<Node>
 
 /// Makes a tree of two subtrees and the piece between them, in this node. The subtrees' heights differ by at most
 /// one. O(1).
-fn with_children(left: Link, entry: Entry, right: Link, mut node: Box<Node>) -> Box<Node>
+fn with_children(
+    left: PieceTree,
+    entry: PieceSum,
+    right: PieceTree,
+    mut node: Box<PieceNode>,
+) -> Box<PieceNode>
     requires even { DifferByAtMost 1 (levels_of left) (levels_of right) }
     requires fits { max (levels_of left) (levels_of right) + 1 < 2 ^ 32 }
     ensures entries { result.value.entries ≡ entries_in_tree left ++ entry ∷ entries_in_tree right }
@@ -354,7 +359,7 @@ fn with_children(left: Link, entry: Entry, right: Link, mut node: Box<Node>) -> 
 {
     let height = height(&left).max(height(&right)) + 1;
     let total = total_over(&left, entry.1, &right);
-    *node = Node {
+    *node = PieceNode {
         entry,
         total,
         height,
@@ -366,14 +371,19 @@ fn with_children(left: Link, entry: Entry, right: Link, mut node: Box<Node>) -> 
 
 /// Makes a tree of two subtrees, the left one (`top`) two levels higher, and the piece between them, by a
 /// rotation. `spare` becomes a node below the top. O(1).
-fn lean_left(mut top: Box<Node>, entry: Entry, right: Link, spare: Box<Node>) -> Box<Node>
+fn lean_left(
+    mut top: Box<PieceNode>,
+    entry: PieceSum,
+    right: PieceTree,
+    spare: Box<PieceNode>,
+) -> Box<PieceNode>
     requires two_higher { top.value.height ≡ levels_of right + 2 }
     requires fits { top.value.height ≤ 2 ^ 31 }
     ensures entries { result.value.entries ≡ top.value.entries ++ entry ∷ entries_in_tree right }
     ensures not_lower { top.value.height ≤ result.value.height }
     ensures one_higher { result.value.height ≤ top.value.height + 1 }
 {
-    let Parts {
+    let PieceNodeParts {
         left: outer,
         entry: between,
         right: inner,
@@ -393,14 +403,19 @@ fn lean_left(mut top: Box<Node>, entry: Entry, right: Link, spare: Box<Node>) ->
 
 /// Makes a tree of two subtrees, the right one (`top`) two levels higher, and the piece between them, by a
 /// rotation. `spare` becomes a node below the top. O(1).
-fn lean_right(left: Link, entry: Entry, mut top: Box<Node>, spare: Box<Node>) -> Box<Node>
+fn lean_right(
+    left: PieceTree,
+    entry: PieceSum,
+    mut top: Box<PieceNode>,
+    spare: Box<PieceNode>,
+) -> Box<PieceNode>
     requires two_higher { top.value.height ≡ levels_of left + 2 }
     requires fits { top.value.height ≤ 2 ^ 31 }
     ensures entries { result.value.entries ≡ entries_in_tree left ++ entry ∷ top.value.entries }
     ensures not_lower { top.value.height ≤ result.value.height }
     ensures one_higher { result.value.height ≤ top.value.height + 1 }
 {
-    let Parts {
+    let PieceNodeParts {
         left: inner,
         entry: between,
         right: outer,
@@ -420,32 +435,32 @@ fn lean_right(left: Link, entry: Entry, mut top: Box<Node>, spare: Box<Node>) ->
 
 /// The first piece of a tree, and the tree of the other pieces.
 #[derive(Drop)]
-struct First {
-    entry: Entry,
-    rest: Link,
+struct FirstPiece {
+    entry: PieceSum,
+    rest: PieceTree,
 }
 
 /// Removes the first piece from a tree, and frees its node. O(log pieces), takes no memory.
-fn take_first(mut node: Box<Node>) -> First
+fn take_first(mut node: Box<PieceNode>) -> FirstPiece
     requires few { length node.value.entries ≤ 2 ^ 64 }
     ensures entries { node.value.entries ≡ result.entry ∷ entries_in_tree result.rest }
     ensures not_higher { levels_of result.rest ≤ node.value.height }
     ensures one_lower { node.value.height ≤ levels_of result.rest + 1 }
 {
-    let Parts { left, entry, right } = node.open();
+    let PieceNodeParts { left, entry, right } = node.open();
     let Some(left) = left else {
-        return First { entry, rest: right };
+        return FirstPiece { entry, rest: right };
     };
     let first = take_first(left);
     let joined = join(first.rest, entry, right, node);
-    First {
+    FirstPiece {
         entry: first.entry,
         rest: Some(joined),
     }
 }
 
 /// Removes the piece that begins at the key, if there is one, and frees a node. O(log pieces), takes no memory.
-pub(crate) fn remove(link: Link, key: KeyNumber) -> Link
+pub(crate) fn remove(link: PieceTree, key: KeyNumber) -> PieceTree
     requires rises { StartsRise (entries_in_tree link) }
     requires few { length (entries_in_tree link) ≤ 2 ^ 64 }
     ensures entries { entries_in_tree result ≡ dropped key (entries_in_tree link) }
@@ -455,7 +470,7 @@ pub(crate) fn remove(link: Link, key: KeyNumber) -> Link
     let Some(mut here) = link else {
         return None;
     };
-    let Parts { left, entry, right } = here.open();
+    let PieceNodeParts { left, entry, right } = here.open();
     if key < entry.0 {
         let rest = remove(left, key);
         return Some(join(rest, entry, right, here));

@@ -7,8 +7,8 @@ ghost use Rattle.crack_index.specs.Sums.{adjusted, joined_below, total_in, dista
 ghost use Rattle.crack_index.specs.Cuts.{StartsRise, Walks, sum_piece_at, next_at, put, given, dropped, span};
 
 use crate::amounts;
-use crate::source::Source;
-use crate::sum_tree::{self, Entry, Link, Node};
+use crate::source::SumSource;
+use crate::sum_tree::{self, PieceNode, PieceSum, PieceTree};
 use crack_row::{BoundNumber, GREATEST_KEY, Key, KeyNumber, KeyRange};
 use std::alloc::Global;
 use std::marker::Model;
@@ -21,7 +21,7 @@ pub const UNKNOWN: i128 = -170141183460469231731687303715884105728;
 /// sum or `UNKNOWN`.
 #[derive(Drop)]
 pub struct PieceSums {
-    root: Link,
+    root: PieceTree,
     len: usize,
     alloc: Global,
 }
@@ -135,7 +135,7 @@ impl PieceSums {
     /// source is asked for each unknown sum: of a part of the range, or, if it prefers that, of the rest of a piece
     /// that contains an end. `None` if no memory is found, the source has no sum, or 128 bits aren't enough; known
     /// sums stay right. O(log pieces), and as much for each sum asked for, besides the source's work.
-    pub fn sum<S: Source>(&mut self, range: KeyRange, source: &S) -> Option<i128>
+    pub fn sum<S: SumSource>(&mut self, range: KeyRange, source: &S) -> Option<i128>
         requires { range.low < range.high }
         ensures right { (m : ℕ → ℕ → ℤ) → IsAdditive m → AreTold (S.says source.now) m → AreRight m self.old
             → IfSome result (λ sum. sum ≡ m range.low range.high) × AreRight m self.new }
@@ -165,7 +165,7 @@ impl PieceSums {
     /// Makes a piece begin at the key `first`: cuts the piece that contains it, or adds one. `last` is the last
     /// key of the range that is summed: it decides which part the source is asked for. Returns false if no memory
     /// is found.
-    fn cut_low<S: Source>(&mut self, first: KeyNumber, last: KeyNumber, source: &S) -> bool
+    fn cut_low<S: SumSource>(&mut self, first: KeyNumber, last: KeyNumber, source: &S) -> bool
         ensures more { Extends (S.says source.now) self.old self.new }
         ensures cut { IsTrue result → IsEnd first self.new }
         ensures same { IsEnd first self.old → self.new ≡ self.old }
@@ -193,7 +193,7 @@ impl PieceSums {
 
     /// Makes a piece begin at the key after `last`, unless `last` is the greatest key: cuts the piece that
     /// contains that key, or adds one. Returns false if no memory is found.
-    fn cut_high<S: Source>(&mut self, last: KeyNumber, source: &S) -> bool
+    fn cut_high<S: SumSource>(&mut self, last: KeyNumber, source: &S) -> bool
         ensures more { Extends (S.says source.now) self.old self.new }
         ensures cut { IsTrue result → IsEnd (last + 1) self.new }
         ensures same { IsEnd (last + 1) self.old → self.new ≡ self.old }
@@ -228,7 +228,7 @@ impl PieceSums {
     /// Cuts the piece that begins at `start` at the key `at`, where none begins. Asks the source for the sum of
     /// the lower part; the upper part gets the rest of `sum`, the piece's sum. Returns false if no memory is
     /// found.
-    fn split_below<S: Source>(
+    fn split_below<S: SumSource>(
         &mut self,
         start: KeyNumber,
         at: KeyNumber,
@@ -245,7 +245,7 @@ impl PieceSums {
     }
 
     /// Like `split_below`, but asks the source for the sum of the upper part.
-    fn split_above<S: Source>(
+    fn split_above<S: SumSource>(
         &mut self,
         start: KeyNumber,
         at: KeyNumber,
@@ -263,7 +263,7 @@ impl PieceSums {
 
     /// The sum of the keys from `first` to `last`, after asking the source for each unknown sum of the pieces from
     /// `start` on. `None` if the source doesn't have one of them, or 128 bits aren't enough.
-    fn learned<S: Source>(
+    fn learned<S: SumSource>(
         &mut self,
         first: KeyNumber,
         start: KeyNumber,
@@ -287,7 +287,7 @@ impl PieceSums {
 
     /// Asks the source for each unknown sum of the pieces that begin at keys from `first` to `last`. Returns false
     /// if the source doesn't have one of them.
-    fn learn<S: Source>(&mut self, first: KeyNumber, last: KeyNumber, source: &S) -> bool
+    fn learn<S: SumSource>(&mut self, first: KeyNumber, last: KeyNumber, source: &S) -> bool
         requires { first ≤ last }
         ensures { Extends (S.says source.now) self.old self.new }
     {
@@ -326,7 +326,7 @@ impl PieceSums {
     }
 
     /// The piece that contains the key, if there is one: its start and its sum. O(log pieces).
-    fn piece_at(&self, key: KeyNumber) -> Option<Entry>
+    fn piece_at(&self, key: KeyNumber) -> Option<PieceSum>
         ensures value { result ≡ sum_piece_at key self.now }
         ensures rises { StartsRise self.now }
     {
@@ -369,7 +369,7 @@ impl PieceSums {
             return false;
         }
         let entry = (key, sum);
-        let Ok(node) = Box::new(self.alloc, Node::leaf(entry)) else {
+        let Ok(node) = Box::new(self.alloc, PieceNode::leaf(entry)) else {
             return false;
         };
         let root = self.root.take();

@@ -17,18 +17,18 @@ use std::marker::Model;
 use std::mem;
 
 /// A tree of marks, or `None` if there are no marks.
-pub(crate) type Link = Option<Box<Node>>;
+pub(crate) type MarkTree = Option<Box<MarkNode>>;
 
 /// A mark, and the trees of the marks before and after it. Contracts see all marks in rising order, and the height.
 #[derive(Drop)]
-pub(crate) struct Node {
+pub(crate) struct MarkNode {
     pub(crate) mark: Mark,
     height: u32,
-    pub(crate) left: Link,
-    pub(crate) right: Link,
+    pub(crate) left: MarkTree,
+    pub(crate) right: MarkTree,
 }
 
-impl Model for Node {
+impl Model for MarkNode {
     ghost use Rattle.std.specs.Prelude.{◌∷◌, ◌++◌, length};
     ghost use Rattle.crack_index.specs.Keeps.{IsBalanced};
     ghost use Rattle.crack_index.specs.Trees.{Grown, marks_in_tree};
@@ -47,19 +47,19 @@ impl Model for Node {
 
 /// The parts of a node.
 #[derive(Drop)]
-struct Parts {
-    left: Link,
+struct MarkNodeParts {
+    left: MarkTree,
     mark: Mark,
-    right: Link,
+    right: MarkTree,
 }
 
-impl Node {
+impl MarkNode {
     /// Makes a tree of one mark.
-    pub(crate) fn leaf(mark: Mark) -> Node
+    pub(crate) fn leaf(mark: Mark) -> MarkNode
         ensures marks { result.marks ≡ mark ∷ [] }
         ensures height { result.height ≡ 1 }
     {
-        Node {
+        MarkNode {
             mark,
             height: 1,
             left: None,
@@ -68,23 +68,23 @@ impl Node {
     }
 
     /// Takes the node apart. The node is left without children.
-    fn open(&mut self) -> Parts
+    fn open(&mut self) -> MarkNodeParts
         ensures marks { self.old.marks ≡ marks_in_tree result.left ++ result.mark ∷ marks_in_tree result.right }
         ensures balanced { IsBalanced result.left result.mark result.right self.old.height }
     {
         let kept = self.mark;
-        let Node {
+        let MarkNode {
             mark,
             left,
             right,
             ..
-        } = mem::replace(self, Node::leaf(kept));
-        Parts { left, mark, right }
+        } = mem::replace(self, MarkNode::leaf(kept));
+        MarkNodeParts { left, mark, right }
     }
 }
 
 /// The height of a tree, 0 if it is empty. O(1).
-pub(crate) fn height(link: &Link) -> u32
+pub(crate) fn height(link: &MarkTree) -> u32
     ensures value { result ≡ height_of link.now }
     ensures tall { IsTall (length (marks_in_tree link.now)) (height_of link.now) }
 {
@@ -95,13 +95,13 @@ pub(crate) fn height(link: &Link) -> u32
 }
 
 /// The last mark whose bound is at or below the number, if there is one. O(log marks), one comparison per level.
-pub(crate) fn last_at(link: &Link, number: KeyNumber) -> Option<Mark>
+pub(crate) fn last_at(link: &MarkTree, number: KeyNumber) -> Option<Mark>
     ensures { result ≡ last_mark number (marks_in_tree link.now) }
 {
     let mut found = None;
     let mut here = link;
     'down: while let Some(node) = here {
-        let Node {
+        let MarkNode {
             mark,
             left,
             right,
@@ -118,13 +118,13 @@ pub(crate) fn last_at(link: &Link, number: KeyNumber) -> Option<Mark>
 }
 
 /// The first mark whose bound is above the number, if there is one. O(log marks), one comparison per level.
-pub(crate) fn next_above(link: &Link, number: KeyNumber) -> Option<Mark>
+pub(crate) fn next_above(link: &MarkTree, number: KeyNumber) -> Option<Mark>
     ensures { result ≡ next_mark number (marks_in_tree link.now) }
 {
     let mut found = None;
     let mut here = link;
     'down: while let Some(node) = here {
-        let Node {
+        let MarkNode {
             mark,
             left,
             right,
@@ -142,7 +142,7 @@ pub(crate) fn next_above(link: &Link, number: KeyNumber) -> Option<Mark>
 
 /// The last mark whose bound is at or below the number, and the first one above it, if they exist. O(log marks),
 /// one comparison per level.
-pub(crate) fn neighbours(link: &Link, number: KeyNumber) -> (Option<Mark>, Option<Mark>)
+pub(crate) fn neighbours(link: &MarkTree, number: KeyNumber) -> (Option<Mark>, Option<Mark>)
     ensures below { result.0 ≡ last_mark number (marks_in_tree link.now) }
     ensures above { result.1 ≡ next_mark number (marks_in_tree link.now) }
 {
@@ -150,7 +150,7 @@ pub(crate) fn neighbours(link: &Link, number: KeyNumber) -> (Option<Mark>, Optio
     let mut above = None;
     let mut here = link;
     'down: while let Some(node) = here {
-        let Node {
+        let MarkNode {
             mark,
             left,
             right,
@@ -168,13 +168,13 @@ pub(crate) fn neighbours(link: &Link, number: KeyNumber) -> (Option<Mark>, Optio
 }
 
 /// The first mark whose place is after this one, if there is one. O(log marks), one comparison per level.
-pub(crate) fn first_behind(link: &Link, place: usize) -> Option<Mark>
+pub(crate) fn first_behind(link: &MarkTree, place: usize) -> Option<Mark>
     ensures { result ≡ first_behind place (marks_in_tree link.now) }
 {
     let mut found = None;
     let mut here = link;
     'down: while let Some(node) = here {
-        let Node {
+        let MarkNode {
             mark,
             left,
             right,
@@ -192,7 +192,7 @@ pub(crate) fn first_behind(link: &Link, place: usize) -> Option<Mark>
 
 /// Inserts a mark, whose bound the tree doesn't have yet, in the node that is passed in. O(log marks), takes no
 /// memory.
-pub(crate) fn insert(link: Link, mark: Mark, mut node: Box<Node>) -> Box<Node>
+pub(crate) fn insert(link: MarkTree, mark: Mark, mut node: Box<MarkNode>) -> Box<MarkNode>
     requires rising { Rising (with_mark mark (marks_in_tree link)) }
     requires few { length (marks_in_tree link) < 2 ^ 64 }
     ensures marks { result.value.marks ≡ with_mark mark (marks_in_tree link) }
@@ -200,7 +200,7 @@ pub(crate) fn insert(link: Link, mark: Mark, mut node: Box<Node>) -> Box<Node>
     ensures one_higher { result.value.height ≤ height_of link + 1 }
 {
     let Some(mut here) = link else {
-        *node = Node::leaf(mark);
+        *node = MarkNode::leaf(mark);
         return node;
     };
     let parts = here.open();
@@ -215,7 +215,7 @@ pub(crate) fn insert(link: Link, mark: Mark, mut node: Box<Node>) -> Box<Node>
 
 /// Makes a tree of two subtrees and the mark between them, in this node. One subtree may be two levels higher than
 /// the other; then the tree is rotated. O(1).
-fn join(left: Link, mark: Mark, right: Link, node: Box<Node>) -> Box<Node>
+fn join(left: MarkTree, mark: Mark, right: MarkTree, node: Box<MarkNode>) -> Box<MarkNode>
     requires rising { Rising (marks_in_tree left ++ mark ∷ marks_in_tree right) }
     requires near { DifferByAtMost 2 (height_of left) (height_of right) }
     requires fits { max (height_of left) (height_of right) ≤ 2 ^ 31 }
@@ -232,7 +232,12 @@ fn join(left: Link, mark: Mark, right: Link, node: Box<Node>) -> Box<Node>
 
 /// Makes a tree of two subtrees and the mark between them, in this node. The subtrees' heights differ by at most
 /// one. O(1).
-fn with_children(left: Link, mark: Mark, right: Link, mut node: Box<Node>) -> Box<Node>
+fn with_children(
+    left: MarkTree,
+    mark: Mark,
+    right: MarkTree,
+    mut node: Box<MarkNode>,
+) -> Box<MarkNode>
     requires rising { Rising (marks_in_tree left ++ mark ∷ marks_in_tree right) }
     requires even { DifferByAtMost 1 (height_of left) (height_of right) }
     requires fits { max (height_of left) (height_of right) + 1 < 2 ^ 32 }
@@ -240,7 +245,7 @@ fn with_children(left: Link, mark: Mark, right: Link, mut node: Box<Node>) -> Bo
     ensures height { result.value.height ≡ max (height_of left) (height_of right) + 1 }
 {
     let height = height(&left).max(height(&right)) + 1;
-    *node = Node {
+    *node = MarkNode {
         mark,
         height,
         left,
@@ -251,7 +256,12 @@ fn with_children(left: Link, mark: Mark, right: Link, mut node: Box<Node>) -> Bo
 
 /// Makes a tree of two subtrees, the left one (`top`) two levels higher, and the mark between them, by a rotation.
 /// `spare` becomes a node below the top. O(1).
-fn lean_left(mut top: Box<Node>, mark: Mark, right: Link, spare: Box<Node>) -> Box<Node>
+fn lean_left(
+    mut top: Box<MarkNode>,
+    mark: Mark,
+    right: MarkTree,
+    spare: Box<MarkNode>,
+) -> Box<MarkNode>
     requires rising { Rising (top.value.marks ++ mark ∷ marks_in_tree right) }
     requires two_higher { top.value.height ≡ height_of right + 2 }
     requires fits { top.value.height ≤ 2 ^ 31 }
@@ -259,7 +269,7 @@ fn lean_left(mut top: Box<Node>, mark: Mark, right: Link, spare: Box<Node>) -> B
     ensures not_lower { top.value.height ≤ result.value.height }
     ensures one_higher { result.value.height ≤ top.value.height + 1 }
 {
-    let Parts {
+    let MarkNodeParts {
         left: outer,
         mark: between,
         right: inner,
@@ -279,7 +289,12 @@ fn lean_left(mut top: Box<Node>, mark: Mark, right: Link, spare: Box<Node>) -> B
 
 /// Makes a tree of two subtrees, the right one (`top`) two levels higher, and the mark between them, by a
 /// rotation. `spare` becomes a node below the top. O(1).
-fn lean_right(left: Link, mark: Mark, mut top: Box<Node>, spare: Box<Node>) -> Box<Node>
+fn lean_right(
+    left: MarkTree,
+    mark: Mark,
+    mut top: Box<MarkNode>,
+    spare: Box<MarkNode>,
+) -> Box<MarkNode>
     requires rising { Rising (marks_in_tree left ++ mark ∷ top.value.marks) }
     requires two_higher { top.value.height ≡ height_of left + 2 }
     requires fits { top.value.height ≤ 2 ^ 31 }
@@ -287,7 +302,7 @@ fn lean_right(left: Link, mark: Mark, mut top: Box<Node>, spare: Box<Node>) -> B
     ensures not_lower { top.value.height ≤ result.value.height }
     ensures one_higher { result.value.height ≤ top.value.height + 1 }
 {
-    let Parts {
+    let MarkNodeParts {
         left: inner,
         mark: between,
         right: outer,
@@ -307,32 +322,32 @@ fn lean_right(left: Link, mark: Mark, mut top: Box<Node>, spare: Box<Node>) -> B
 
 /// The first mark of a tree, and the tree of the other marks.
 #[derive(Drop)]
-struct First {
+struct FirstMark {
     mark: Mark,
-    rest: Link,
+    rest: MarkTree,
 }
 
 /// Removes the first mark from a tree, and frees its node. O(log marks), takes no memory.
-fn take_first(mut node: Box<Node>) -> First
+fn take_first(mut node: Box<MarkNode>) -> FirstMark
     requires few { length node.value.marks < 2 ^ 64 }
     ensures marks { node.value.marks ≡ result.mark ∷ marks_in_tree result.rest }
     ensures not_higher { height_of result.rest ≤ node.value.height }
     ensures one_lower { node.value.height ≤ height_of result.rest + 1 }
 {
-    let Parts { left, mark, right } = node.open();
+    let MarkNodeParts { left, mark, right } = node.open();
     let Some(left) = left else {
-        return First { mark, rest: right };
+        return FirstMark { mark, rest: right };
     };
     let first = take_first(left);
     let joined = join(first.rest, mark, right, node);
-    First {
+    FirstMark {
         mark: first.mark,
         rest: Some(joined),
     }
 }
 
 /// Removes the mark of this bound, if the tree has it, and frees a node. O(log marks), takes no memory.
-pub(crate) fn remove(link: Link, bound: KeyNumber) -> Link
+pub(crate) fn remove(link: MarkTree, bound: KeyNumber) -> MarkTree
     requires few { length (marks_in_tree link) < 2 ^ 64 }
     ensures marks { marks_in_tree result ≡ removed bound (marks_in_tree link) }
     ensures not_higher { height_of result ≤ height_of link }
@@ -341,7 +356,7 @@ pub(crate) fn remove(link: Link, bound: KeyNumber) -> Link
     let Some(mut here) = link else {
         return None;
     };
-    let Parts { left, mark, right } = here.open();
+    let MarkNodeParts { left, mark, right } = here.open();
     if bound < mark.bound.number() {
         let rest = remove(left, bound);
         return Some(join(rest, mark, right, here));
@@ -358,7 +373,7 @@ pub(crate) fn remove(link: Link, bound: KeyNumber) -> Link
 }
 
 /// Moves each bound at or above `low` that is at the place up by one. O(log marks + marks at the place).
-pub(crate) fn raise(link: &mut Link, low: KeyNumber, place: usize)
+pub(crate) fn raise(link: &mut MarkTree, low: KeyNumber, place: usize)
     requires { place < usize.MAX }
     ensures marks { marks_in_tree link.new ≡ map (raised low place) (marks_in_tree link.old) }
     ensures height { height_of link.new ≡ height_of link.old }
@@ -366,7 +381,7 @@ pub(crate) fn raise(link: &mut Link, low: KeyNumber, place: usize)
     let Some(node) = link else {
         return;
     };
-    let Node {
+    let MarkNode {
         mark,
         left,
         right,
@@ -384,7 +399,7 @@ pub(crate) fn raise(link: &mut Link, low: KeyNumber, place: usize)
 }
 
 /// Moves each bound that is at the place down by one. O(log marks + marks at the place).
-pub(crate) fn lower_at(link: &mut Link, place: usize)
+pub(crate) fn lower_at(link: &mut MarkTree, place: usize)
     requires { 0 < place }
     ensures marks { marks_in_tree link.new ≡ map (lowered_at place) (marks_in_tree link.old) }
     ensures height { height_of link.new ≡ height_of link.old }
@@ -392,7 +407,7 @@ pub(crate) fn lower_at(link: &mut Link, place: usize)
     let Some(node) = link else {
         return;
     };
-    let Node {
+    let MarkNode {
         mark,
         left,
         right,
@@ -418,7 +433,7 @@ struct Edge {
 
 /// Appends the sizes of the pieces that end at the tree's marks, in order. The first piece begins at `last`, which
 /// becomes the edge at the last mark. O(marks), takes no memory.
-fn append_pieces(link: &Link, last: &mut Edge, pieces: &mut Vec<PieceSize>)
+fn append_pieces(link: &MarkTree, last: &mut Edge, pieces: &mut Vec<PieceSize>)
     requires room { vec_len pieces.old + length (marks_in_tree link.now) ≤ vec_capacity pieces.old }
     ensures made { (rest : List Mark) (high : Bound) (to : ℕ)
         → pieces.old.items ++ pieces_from last.old.bound last.old.position (marks_in_tree link.now ++ rest) high to
@@ -429,7 +444,7 @@ fn append_pieces(link: &Link, last: &mut Edge, pieces: &mut Vec<PieceSize>)
     let Some(node) = link else {
         return;
     };
-    let Node {
+    let MarkNode {
         mark,
         left,
         right,
@@ -446,7 +461,7 @@ fn append_pieces(link: &Link, last: &mut Edge, pieces: &mut Vec<PieceSize>)
 /// `marks` is the number of marks. O(marks). Refused with `OutOfMemory` if no memory is found.
 pub(crate) fn piece_sizes(
     alloc: Global,
-    link: &Link,
+    link: &MarkTree,
     marks: usize,
     keys: KeyRange,
     len: usize,
@@ -494,7 +509,7 @@ fn piece_between(low: Edge, high: Edge) -> PieceSize
 
 /// Fills the stock up to this many spare nodes, one box at a time. Refused with `OutOfMemory` if no memory is
 /// found; nodes made until then stay in the stock.
-pub(crate) fn fill(spare: &mut Vec<Box<Node>>, nodes: usize) -> Result<(), Refusal>
+pub(crate) fn fill(spare: &mut Vec<Box<MarkNode>>, nodes: usize) -> Result<(), Refusal>
     requires { vec_len spare.old ≤ nodes }
     ensures ok { OnOk result (nodes ≤ vec_len spare.new) }
     ensures kept { vec_len spare.old ≤ vec_len spare.new }
@@ -508,7 +523,7 @@ pub(crate) fn fill(spare: &mut Vec<Box<Node>>, nodes: usize) -> Result<(), Refus
             bound: InnerBound::least(),
             position: 0,
         };
-        let node = Box::new(alloc, Node::leaf(empty))?;
+        let node = Box::new(alloc, MarkNode::leaf(empty))?;
         spare.push_reserved(node);
     }
     Ok(())

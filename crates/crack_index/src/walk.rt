@@ -6,7 +6,7 @@ ghost use Rattle.crack_index.specs.Steps.{Goes, StepsUp, StepsDown};
 ghost use Rattle.crack_index.specs.Trees.{marks_in_tree};
 ghost use Rattle.crack_index.specs.Walks.{Climbs, Descends};
 
-use crate::tree::{Link, Node};
+use crate::tree::{MarkNode, MarkTree};
 use crate::{Mark, Visitor};
 use crack_row::KeyNumber;
 
@@ -23,7 +23,11 @@ struct Way {
 /// visitor ended the walk, or `None` if no mark was left. O(log marks), and one step for each mark at the visited
 /// places.
 #[inline(always)]
-pub(crate) fn climb<V: Visitor>(link: &mut Link, number: KeyNumber, visitor: &mut V) -> Option<Mark>
+pub(crate) fn climb<V: Visitor>(
+    link: &mut MarkTree,
+    number: KeyNumber,
+    visitor: &mut V,
+) -> Option<Mark>
     requires rising { Rising (marks_in_tree link.old) }
     requires small { All (λ m. m.position < usize.MAX) (marks_in_tree link.old) }
     requires ready { V.is_ready visitor.old }
@@ -49,7 +53,7 @@ pub(crate) fn climb<V: Visitor>(link: &mut Link, number: KeyNumber, visitor: &mu
 /// places.
 #[inline(always)]
 pub(crate) fn descend<V: Visitor>(
-    link: &mut Link,
+    link: &mut MarkTree,
     number: KeyNumber,
     visitor: &mut V,
 ) -> Option<Mark>
@@ -74,7 +78,7 @@ pub(crate) fn descend<V: Visitor>(
 
 /// Does the part of a walk up that lies in this tree. Returns whether the walk has ended.
 fn raise_along<V: Visitor>(
-    node: &mut Node,
+    node: &mut MarkNode,
     number: KeyNumber,
     way: &mut Way,
     visitor: &mut V,
@@ -88,7 +92,7 @@ fn raise_along<V: Visitor>(
     ensures ended { result ≡ is_some way.new.ended }
     ensures ready { V.is_ready visitor.new }
 {
-    let Node {
+    let MarkNode {
         mark,
         left,
         right,
@@ -116,7 +120,7 @@ fn raise_along<V: Visitor>(
 
 /// Does the part of a walk up that lies in this tree. All its bounds are above the number from which the walk began,
 /// so none is compared with it. Returns whether the walk has ended.
-fn raise_all<V: Visitor>(node: &mut Node, way: &mut Way, visitor: &mut V) -> bool
+fn raise_all<V: Visitor>(node: &mut MarkNode, way: &mut Way, visitor: &mut V) -> bool
     requires going { way.old.ended ≡ None }
     requires above { (number : ℕ) × All (λ m. number < m.bound.0) node.old.marks }
     requires small { All (λ m. m.position < usize.MAX) node.old.marks }
@@ -127,7 +131,7 @@ fn raise_all<V: Visitor>(node: &mut Node, way: &mut Way, visitor: &mut V) -> boo
     ensures ended { result ≡ is_some way.new.ended }
     ensures ready { V.is_ready visitor.new }
 {
-    let Node {
+    let MarkNode {
         mark,
         left,
         right,
@@ -149,7 +153,7 @@ fn raise_all<V: Visitor>(node: &mut Node, way: &mut Way, visitor: &mut V) -> boo
 
 /// Does the part of a walk down that lies in this tree. Returns whether the walk has ended.
 fn lower_along<V: Visitor>(
-    node: &mut Node,
+    node: &mut MarkNode,
     number: KeyNumber,
     way: &mut Way,
     visitor: &mut V,
@@ -162,7 +166,7 @@ fn lower_along<V: Visitor>(
     ensures ended { result ≡ is_some way.new.ended }
     ensures ready { V.is_ready visitor.new }
 {
-    let Node {
+    let MarkNode {
         mark,
         left,
         right,
@@ -190,7 +194,7 @@ fn lower_along<V: Visitor>(
 
 /// Does the part of a walk down that lies in this tree. None of its bounds is above the number from which the walk
 /// began, so none is compared with it. Returns whether the walk has ended.
-fn lower_all<V: Visitor>(node: &mut Node, way: &mut Way, visitor: &mut V) -> bool
+fn lower_all<V: Visitor>(node: &mut MarkNode, way: &mut Way, visitor: &mut V) -> bool
     requires going { way.old.ended ≡ None }
     requires below { (number : ℕ) × All (λ m. m.bound.0 ≤ number) node.old.marks }
     requires ready { V.is_ready visitor.old }
@@ -201,7 +205,7 @@ fn lower_all<V: Visitor>(node: &mut Node, way: &mut Way, visitor: &mut V) -> boo
     ensures ended { result ≡ is_some way.new.ended }
     ensures ready { V.is_ready visitor.new }
 {
-    let Node {
+    let MarkNode {
         mark,
         left,
         right,

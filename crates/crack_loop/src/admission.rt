@@ -1,6 +1,6 @@
 //! Accepting the connections of a server, for all its threads.
 use crate::connection::has_passed;
-use crate::terms::Ending;
+use crate::terms::ServerEnding;
 use mio::net::{TcpListener, TcpStream};
 use std::io::ErrorKind;
 use std::net::SocketAddr;
@@ -10,7 +10,7 @@ use std::sync::{Mutex, Wait};
 /// The counts of a server's connections: those accepted, with accepts that failed, and `most`, how many that may
 /// be; those that are open; those that have ended (`served`), and how many of them were cut off.
 #[derive(Drop)]
-pub(crate) struct Progress {
+pub(crate) struct ConnectionCounts {
     accepted: u64,
     pub(crate) most: u64,
     open: u64,
@@ -53,7 +53,7 @@ pub(crate) enum Arrival {
 /// The counts of a server's connections, and whether it accepts more.
 #[derive(Drop)]
 pub(crate) struct Admission {
-    pub(crate) progress: Mutex<Progress>,
+    pub(crate) progress: Mutex<ConnectionCounts>,
     /// Whether no more connections are accepted.
     is_over: AtomicBool,
     /// Whether the server stops.
@@ -62,13 +62,13 @@ pub(crate) struct Admission {
 
 impl Admission {
     /// The state of a new server with this ending.
-    pub(crate) fn new(ending: Ending) -> Admission {
+    pub(crate) fn new(ending: ServerEnding) -> Admission {
         let most = match ending {
-            Ending::AfterSessions(sessions) => sessions,
-            Ending::AtEndOfInput => u64::MAX,
+            ServerEnding::AfterSessions(sessions) => sessions,
+            ServerEnding::AtEndOfInput => u64::MAX,
         };
         Admission {
-            progress: Mutex::new(Progress {
+            progress: Mutex::new(ConnectionCounts {
                 accepted: 0,
                 most,
                 open: 0,

@@ -2,7 +2,7 @@
 use crate::admission::Arrival;
 use crate::client::{After, Client};
 use crate::connection::{Connection, has_passed};
-use crate::terms::Service;
+use crate::terms::ServerState;
 use crate::{READ_BYTES, Room};
 use arrayvec::ArrayString;
 use crack_row::Refusal;
@@ -88,7 +88,7 @@ impl Crowd {
     /// connections that are ready.
     pub(crate) fn wait<Rt: Wait, H: Host>(
         &mut self,
-        service: &Service<'_, Rt, H>,
+        service: &ServerState<'_, Rt, H>,
         events: &mut Events,
     ) {
         let most = match (self.may_arrive, self.left) {
@@ -115,7 +115,7 @@ impl Crowd {
 
     /// Reads the clock. The thread's own time advances by the time that passed, at most by `MOST_ROUND_MILLIS`, so
     /// that no client is blamed for a pause of the process.
-    pub(crate) fn read_clock<Rt: Wait, H: Host>(&mut self, service: &Service<'_, Rt, H>) {
+    pub(crate) fn read_clock<Rt: Wait, H: Host>(&mut self, service: &ServerState<'_, Rt, H>) {
         let now = service.host.millis();
         let passed = now.saturating_sub(self.now).min(MOST_ROUND_MILLIS);
         self.awake = self.awake.saturating_add(passed);
@@ -124,7 +124,7 @@ impl Crowd {
 
     /// Accepts one connection, if one waits. A thread that has more than its share of the connections first leaves
     /// it to the other threads for a few rounds.
-    pub(crate) fn accept<Rt: Wait, H: Host>(&mut self, service: &Service<'_, Rt, H>) {
+    pub(crate) fn accept<Rt: Wait, H: Host>(&mut self, service: &ServerState<'_, Rt, H>) {
         if !self.may_arrive {
             return;
         }
@@ -159,7 +159,7 @@ impl Crowd {
     /// watched or no memory is found.
     fn admit<Rt: Wait, H: Host>(
         &mut self,
-        service: &Service<'_, Rt, H>,
+        service: &ServerState<'_, Rt, H>,
         stream: TcpStream,
         address: SocketAddr,
     ) {
@@ -195,7 +195,7 @@ impl Crowd {
     /// more than what has arrived. Cuts it off if no memory is found for the queue.
     fn enqueue<Rt: Wait, H: Host>(
         &mut self,
-        service: &Service<'_, Rt, H>,
+        service: &ServerState<'_, Rt, H>,
         key: usize,
         is_half_closed: bool,
     ) {
@@ -212,7 +212,7 @@ impl Crowd {
     /// Lets each queued connection take a turn, and queues those again that don't have to wait for an event.
     pub(crate) fn take_turns<Rt: Wait, D: Desk, H: Host>(
         &mut self,
-        service: &Service<'_, Rt, H>,
+        service: &ServerState<'_, Rt, H>,
         desk: &mut D,
     ) {
         let count = self.queue.len();
@@ -227,7 +227,7 @@ impl Crowd {
     /// Lets a connection take a turn, and records how many statements were answered and how long that took.
     fn turn<Rt: Wait, D: Desk, H: Host>(
         &mut self,
-        service: &Service<'_, Rt, H>,
+        service: &ServerState<'_, Rt, H>,
         desk: &mut D,
         key: usize,
     ) -> After {
@@ -254,7 +254,7 @@ impl Crowd {
     /// Queues or removes a connection after its turn.
     fn follow<Rt: Wait, H: Host>(
         &mut self,
-        service: &Service<'_, Rt, H>,
+        service: &ServerState<'_, Rt, H>,
         key: usize,
         after: After,
     ) {
@@ -269,7 +269,7 @@ impl Crowd {
     /// Closes a connection. If `cut_off` has a refusal and its cause, the connection was cut off.
     fn remove<Rt: Wait, H: Host>(
         &mut self,
-        service: &Service<'_, Rt, H>,
+        service: &ServerState<'_, Rt, H>,
         key: usize,
         cut_off: Option<(Refusal, Cause)>,
     ) {
@@ -282,7 +282,7 @@ impl Crowd {
 
     /// Every `LOOK_MILLIS`, cuts off the connections that have waited too long, reports what wasn't accepted and
     /// what was answered, and allows a failed accept to be tried again.
-    pub(crate) fn look<Rt: Wait, H: Host>(&mut self, service: &Service<'_, Rt, H>) {
+    pub(crate) fn look<Rt: Wait, H: Host>(&mut self, service: &ServerState<'_, Rt, H>) {
         if !has_passed(LOOK_MILLIS, self.looked, self.now) {
             return;
         }
@@ -301,7 +301,7 @@ impl Crowd {
     }
 
     /// Reports to the server what was answered since the last report.
-    fn tell_pace<Rt: Wait, H: Host>(&mut self, service: &Service<'_, Rt, H>) {
+    fn tell_pace<Rt: Wait, H: Host>(&mut self, service: &ServerState<'_, Rt, H>) {
         if self.answered > 0 {
             service.note_pace(self.now, self.answered, self.longest);
             self.answered = 0;
@@ -320,7 +320,7 @@ impl Crowd {
     }
 
     /// Once the server stops, queues each connection for a turn, in which it ends unless it is busy.
-    pub(crate) fn heed_stop<Rt: Wait, H: Host>(&mut self, service: &Service<'_, Rt, H>) {
+    pub(crate) fn heed_stop<Rt: Wait, H: Host>(&mut self, service: &ServerState<'_, Rt, H>) {
         if self.stopping_since.is_none() && service.admission.is_stopping() {
             self.stopping_since = Some(self.now);
             'keys: for key in 0..self.clients.capacity() {
@@ -331,7 +331,7 @@ impl Crowd {
 
     /// Whether the thread ends: no more connections are accepted, and there are none left or the stop has waited
     /// long enough.
-    pub(crate) fn is_done<Rt: Wait, H: Host>(&self, service: &Service<'_, Rt, H>) -> bool {
+    pub(crate) fn is_done<Rt: Wait, H: Host>(&self, service: &ServerState<'_, Rt, H>) -> bool {
         let most = u64::from(service.terms.drain) * 1000;
         let waited = match self.stopping_since {
             Some(since) => has_passed(most, since, self.now),
@@ -341,7 +341,7 @@ impl Crowd {
     }
 
     /// Cuts off the connections that a stop didn't wait for.
-    pub(crate) fn cut_off_all<Rt: Wait, H: Host>(&mut self, service: &Service<'_, Rt, H>) {
+    pub(crate) fn cut_off_all<Rt: Wait, H: Host>(&mut self, service: &ServerState<'_, Rt, H>) {
         'keys: for key in 0..self.clients.capacity() {
             if let Some(client) = self.clients.get(key) {
                 let refusal = client.connection.fault();

@@ -14,7 +14,7 @@ pub mod terms;
 pub use connection::{Connection, Next};
 use crack_session::Output;
 pub use server::serve_connections;
-pub use terms::{Ending, Terms};
+pub use terms::{ServerEnding, Terms};
 
 /// The greatest number of bytes in one read.
 pub const READ_BYTES: usize = 4096;

@@ -1,7 +1,7 @@
 //! A desk that reports the traffic of its server.
 ghost use Rattle.std.specs.Prelude.{◌≡◌};
 
-use crate::terms::Service;
+use crate::terms::ServerState;
 use crack_commands::Traffic;
 use crack_plain::Statistics;
 use crack_row::{Bound, Command, Layout, Policy, Refusal, Reply};
@@ -11,12 +11,12 @@ use std::sync::Wait;
 
 /// A desk, and the server that it belongs to.
 #[derive(Drop)]
-pub(crate) struct Served<'a, D, Rt: Wait, H: Host> {
+pub(crate) struct ReportingDesk<'a, D, Rt: Wait, H: Host> {
     pub(crate) desk: D,
-    pub(crate) service: &'a Service<'a, Rt, H>,
+    pub(crate) service: &'a ServerState<'a, Rt, H>,
 }
 
-impl<'a, D: Desk, Rt: Wait, H: Host> Desk for Served<'a, D, Rt, H> {
+impl<'a, D: Desk, Rt: Wait, H: Host> Desk for ReportingDesk<'a, D, Rt, H> {
     ghost use Rattle.crack_loop.specs.Served.{served_leads};
 
     ghost tables = { λ s. ⟦<D as Desk>⟧.tables s.desk };

@@ -2,8 +2,8 @@
 use crate::admission::Admission;
 use crate::crowd::{Crowd, LISTENER, WAKER};
 use crate::pace::Pace;
-use crate::served::Served;
-use crate::terms::{Ending, Service, Terms};
+use crate::served::ReportingDesk;
+use crate::terms::{ServerEnding, ServerState, Terms};
 use crack_row::Refusal;
 use crack_service::{Host, Notice};
 use crack_session::Desk;
@@ -50,7 +50,7 @@ pub fn serve_connections<
 ) -> Result<Vec<D>, Refusal> {
     let (posts, wakers) = posts(rt, alloc, listener, desks.len())?;
     let begun = host.millis();
-    let service = Service {
+    let service = ServerState {
         rt,
         alloc,
         terms,
@@ -72,7 +72,7 @@ pub fn serve_connections<
 fn serve_posts<Rt: Threads + Wait + Net + Sync, D: Desk + Send + Drop, H: Host + Sync, I: Read>(
     rt: &Rt,
     alloc: Global,
-    service: &Service<'_, Rt, H>,
+    service: &ServerState<'_, Rt, H>,
     posts: Vec<Post>,
     desks: Vec<D>,
     input: &mut I,
@@ -144,7 +144,7 @@ fn watch<N: Net>(net: &N, listener: &net::TcpListener) -> io::Result<(Poll, TcpL
 
 /// Serves connections at a desk until the server ends, and returns the desk.
 fn serve_post<Rt: Wait, D: Desk + Drop, H: Host>(
-    service: &Service<'_, Rt, H>,
+    service: &ServerState<'_, Rt, H>,
     post: Post,
     desk: D,
 ) -> D {
@@ -153,7 +153,7 @@ fn serve_post<Rt: Wait, D: Desk + Drop, H: Host>(
         listener,
         events,
     } = post;
-    let (mut served, mut events) = (Served { desk, service }, events);
+    let (mut served, mut events) = (ReportingDesk { desk, service }, events);
     let mut crowd = Crowd::new(service.alloc, poll, listener, service.host.millis());
     service.admission.await_start(service.rt);
     'rounds: for _ in 0..u64::MAX {
@@ -168,13 +168,13 @@ fn serve_post<Rt: Wait, D: Desk + Drop, H: Host>(
         }
     }
     crowd.cut_off_all(service);
-    let Served { desk, .. } = served;
+    let ReportingDesk { desk, .. } = served;
     desk
 }
 
 /// If the server ends with its input, waits for the end of the input, and then stops the server.
-fn await_end<Rt: Wait, H: Host, I: Read>(service: &Service<'_, Rt, H>, input: &mut I) {
-    if let Ending::AtEndOfInput = service.terms.ending {
+fn await_end<Rt: Wait, H: Host, I: Read>(service: &ServerState<'_, Rt, H>, input: &mut I) {
+    if let ServerEnding::AtEndOfInput = service.terms.ending {
         read_out(input);
         service.admission.stop();
         service.wake_all();

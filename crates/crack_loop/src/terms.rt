@@ -11,7 +11,7 @@ use std::sync::{Mutex, Wait};
 
 /// When a server ends.
 #[derive(Clone, Copy, Drop)]
-pub enum Ending {
+pub enum ServerEnding {
     /// Once this many connections were accepted and have ended. An accept that fails counts as a connection.
     AfterSessions(u64),
     /// When its input ends: then no more connections are accepted, and open ones end as soon as they have nothing to
@@ -25,7 +25,7 @@ pub struct Terms {
     /// The policy with which each session begins.
     pub policy: Policy,
     /// When the server ends.
-    pub ending: Ending,
+    pub ending: ServerEnding,
     /// How many seconds a connection may wait for its client, at least 1, or `None` for any time.
     pub idle: Option<u32>,
     /// How many connections may be open at once.
@@ -38,7 +38,7 @@ pub struct Terms {
 
 /// The state that the threads of a server share.
 #[derive(Drop)]
-pub(crate) struct Service<'a, Rt: Wait, H: Host> {
+pub(crate) struct ServerState<'a, Rt: Wait, H: Host> {
     pub(crate) rt: &'a Rt,
     pub(crate) alloc: Global,
     pub(crate) terms: Terms,
@@ -51,7 +51,7 @@ pub(crate) struct Service<'a, Rt: Wait, H: Host> {
     pub(crate) wakers: Vec<Waker>,
 }
 
-impl<'a, Rt: Wait, H: Host> Service<'a, Rt, H> {
+impl<'a, Rt: Wait, H: Host> ServerState<'a, Rt, H> {
     /// Ends each thread's wait for events. A thread that can't be woken ends its wait soon by itself.
     pub(crate) fn wake_all(&self) {
         'threads: for waker in &self.wakers {

@@ -1,6 +1,6 @@
 //! Servers over a core, and their clients.
 use crack_core::Core;
-use crack_loop::{Ending, Terms, serve_connections};
+use crack_loop::{ServerEnding, Terms, serve_connections};
 use crack_row::{GREATEST_LIMIT, Policy, Refusal};
 use crack_service::Alone;
 use std::alloc::Global;
@@ -13,7 +13,7 @@ use std::thread::Threads;
 use std::time::Duration;
 
 /// The options of a server with this ending.
-pub(crate) fn terms(ending: Ending) -> Terms {
+pub(crate) fn terms(ending: ServerEnding) -> Terms {
     Terms {
         policy: Policy::Ripple,
         ending,

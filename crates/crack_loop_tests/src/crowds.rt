@@ -1,6 +1,6 @@
 //! Many clients of one thread.
 use crate::clients::{answers, connect, listening, rest_of, rows_after, terms};
-use crack_loop::Ending;
+use crack_loop::ServerEnding;
 use std::alloc::Global;
 use std::io::Write;
 use std::net::{Net, Shutdown, TcpListener, TcpStream};
@@ -61,7 +61,7 @@ fn interleaved<N: Net<Listener = TcpListener, Stream = TcpStream>>(
 fn three_hundred_clients_are_answered_by_one_thread(rt: HostRuntime) {
     let alloc: Global = rt.alloc();
     let (listener, port) = listening(&rt);
-    let terms = terms(Ending::AfterSessions(CLIENTS as u64));
+    let terms = terms(ServerEnding::AfterSessions(CLIENTS as u64));
     let mut input: &[u8] = b"";
     let (rows, right) = thread::join(
         &rt,
@@ -76,7 +76,7 @@ fn three_hundred_clients_are_answered_by_one_thread(rt: HostRuntime) {
 fn an_unfinished_line_is_answered_at_the_end_of_input(rt: HostRuntime) {
     let alloc: Global = rt.alloc();
     let (listener, port) = listening(&rt);
-    let terms = terms(Ending::AfterSessions(1));
+    let terms = terms(ServerEnding::AfterSessions(1));
     let mut input: &[u8] = b"";
     let (rows, got) = thread::join(
         &rt,

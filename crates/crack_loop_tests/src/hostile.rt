@@ -1,6 +1,6 @@
 //! Clients that keep a server's thread busy or waiting, and honest clients at the same time.
 use crate::clients::{answers, connect, listening, rest_of, rows_after, terms};
-use crack_loop::{Ending, Terms};
+use crack_loop::{ServerEnding, Terms};
 use std::alloc::Global;
 use std::io::Write;
 use std::net::{Net, TcpListener, TcpStream};
@@ -141,7 +141,7 @@ fn honest_clients_are_answered_beside_hostile_ones(rt: HostRuntime) {
         let (listener, port) = listening(&rt);
         let terms = Terms {
             clients: 2,
-            ..terms(Ending::AfterSessions(sessions))
+            ..terms(ServerEnding::AfterSessions(sessions))
         };
         let mut input: &[u8] = b"";
         let (held, got) = thread::join(

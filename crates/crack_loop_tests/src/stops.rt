@@ -1,6 +1,6 @@
 //! Servers that stop at the end of their input.
 use crate::clients::{connect, listening, rest_of, rows_after, terms};
-use crack_loop::Ending;
+use crack_loop::ServerEnding;
 use std::alloc::Global;
 use std::io::{Read, Write};
 use std::net::{Net, TcpListener, TcpStream};
@@ -29,7 +29,7 @@ fn a_silent_client_stops_no_server_from_ending(rt: HostRuntime) {
     let accepted = inputs.accept().ok();
     let (mut input, _) = accepted.expect(&rt, "an input");
     let (listener, port) = listening(&rt);
-    let terms = terms(Ending::AtEndOfInput);
+    let terms = terms(ServerEnding::AtEndOfInput);
     let (rows, got) = thread::join(
         &rt,
         || rows_after(&rt, alloc, &listener, terms, &mut input),

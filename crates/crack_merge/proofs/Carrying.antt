@@ -49,24 +49,24 @@ tallies_evicted s i c inside intact now pushes =
     let left = ap (λ (x : State). length x.pending_in) pushes.same in
     let more = length-append c.store.pending_in (c.hand ∷ []) in
     let counts : IsExact (returned c).tally → Counts s (appended c) (length s.marks + 1) = λ exact.
-    ended.counts (record { put_in = exact.put_in; taken_out = exact.taken_out; evicted = omega (arith, exact.evicted, counter.rises now.counted.evicted); moved = exact.moved; pulled = exact.pulled }) in
+    ended.counts (record { insertions = exact.insertions; deletions = exact.deletions; evicted = omega (arith, exact.evicted, counter.rises now.counted.evicted); moved = exact.moved; pulled = exact.pulled }) in
     record {
-      rises = record { put_in = ended.rises.put_in; taken_out = ended.rises.taken_out; evicted = omega (arith, evicted, counter.rises now.counted.evicted); moved = ended.rises.moved; pulled = ended.rises.pulled };
-      counts = λ exact. let was = counts exact in record { put_in = omega (arith, was.put_in, counter.exact exact.evicted, more); taken_out = was.taken_out; moved = was.moved; pulled = was.pulled };
-      evicts = λ exact. omega (arith, (counts exact).put_in, counter.exact exact.evicted, evicted, gone, left);
+      rises = record { insertions = ended.rises.insertions; deletions = ended.rises.deletions; evicted = omega (arith, evicted, counter.rises now.counted.evicted); moved = ended.rises.moved; pulled = ended.rises.pulled };
+      counts = λ exact. let was = counts exact in record { insertions = omega (arith, was.insertions, counter.exact exact.evicted, more); deletions = was.deletions; moved = was.moved; pulled = was.pulled };
+      evicts = λ exact. omega (arith, (counts exact).insertions, counter.exact exact.evicted, evicted, gone, left);
     }
 
 -- it moved at most as many rows as the range has pieces
-moved_few : (s : State) (r : Range) (i : ℕ) (c : Carried) → IsIntact s [] → r.low ≤ hand_key (lifted i s) → Ripples r (lifted i s) c → c.store.tally.put_in < greatest → c.store.tally.moved + s.tally.put_in * piece_count s r ≤ s.tally.moved + c.store.tally.put_in * piece_count s r
+moved_few : (s : State) (r : Range) (i : ℕ) (c : Carried) → IsIntact s [] → r.low ≤ hand_key (lifted i s) → Ripples r (lifted i s) c → c.store.tally.insertions < greatest → c.store.tally.moved + s.tally.insertions * piece_count s r ≤ s.tally.moved + c.store.tally.insertions * piece_count s r
 moved_few s r i c intact above ripples exact =
-    let counter = raised_counter s.tally.put_in in
-    let same = ap (λ (x : State). x.tally.put_in) ripples.pushes.same in
-    let one : c.store.tally.put_in ≡ s.tally.put_in + 1 = same ∙ counter.exact (omega (arith, exact, same)) in
+    let counter = raised_counter s.tally.insertions in
+    let same = ap (λ (x : State). x.tally.insertions) ripples.pushes.same in
+    let one : c.store.tally.insertions ≡ s.tally.insertions + 1 = same ∙ counter.exact (omega (arith, exact, same)) in
     let few = pieces_ahead-few r.low (hand_key (lifted i s)) r.high (bounds_of s.marks) above in
-    more_moved c.store.tally.moved s.tally.moved s.tally.put_in c.store.tally.put_in (piece_count s r) one (omega (arith, ripples.moved, few))
+    more_moved c.store.tally.moved s.tally.moved s.tally.insertions c.store.tally.insertions (piece_count s r) one (omega (arith, ripples.moved, few))
   where
-    more_moved : (moved before put_in after q : ℕ) → after ≡ put_in + 1 → moved ≤ before + q → moved + put_in * q ≤ before + after * q
-    more_moved moved before put_in after q one few = rw one (grind arith)
+    more_moved : (moved before insertions after q : ℕ) → after ≡ insertions + 1 → moved ≤ before + q → moved + insertions * q ≤ before + after * q
+    more_moved moved before insertions after q one few = rw one (grind arith)
 
 module _ (s : State) (r : Range) (i : ℕ) (of : IsRangeOf s r) (inside : i < length s.pending_in) (intact : IsIntact s []) (above : r.low ≤ hand_key (lifted i s)) where
   follows_pushed : (c : Carried) → Ripples r (lifted i s) c → Follows s c.store
@@ -76,20 +76,20 @@ module _ (s : State) (r : Range) (i : ℕ) (of : IsRangeOf s r) (inside : i < le
   of_pushed c ripples = IsRangeOf-follows s c.store r (follows_pushed c ripples) of
 
   -- where the carry has ended
-  CarriesNear-ended : (c : Carried) (t : State) → Ripples r (lifted i s) c → PutsIn Ripple s t → IsIntact t [] → StaysOutside c.store t r → t.tally.put_in ≡ c.store.tally.put_in → t.tally.moved ≡ c.store.tally.moved → (t.pending_in ≡ remove s.pending_in i) ⊎ EvictsOne s t r i → CarriesNear s t r i
-  CarriesNear-ended c t ripples puts now stays put_in moved left =
+  CarriesNear-ended : (c : Carried) (t : State) → Ripples r (lifted i s) c → PutsIn Ripple s t → IsIntact t [] → StaysOutside c.store t r → t.tally.insertions ≡ c.store.tally.insertions → t.tally.moved ≡ c.store.tally.moved → (t.pending_in ≡ remove s.pending_in i) ⊎ EvictsOne s t r i → CarriesNear s t r i
+  CarriesNear-ended c t ripples puts now stays insertions moved left =
       let lifts : StaysOutside s (lifted i s).store r = StaysOutside-same s (lifted i s).store r refl (high_within s [] r of intact) in
       record {
         puts = puts;
         intact = now;
         stays = StaysOutside-trans s c.store t r (StaysOutside-trans s (lifted i s).store c.store r lifts ripples.stays) stays;
-        moves = λ exact. rw (put_in, moved) (moved_few s r i c intact above ripples (rw put_in at exact.put_in));
+        moves = λ exact. rw (insertions, moved) (moved_few s r i c intact above ripples (rw insertions at exact.insertions));
         left = left;
       }
 
-  CarriesNear-carried : (c : Carried) (t : State) → Ripples r (lifted i s) c → CarriedIn s t i → IsIntact t [] → StaysOutside c.store t r → t.tally.put_in ≡ c.store.tally.put_in → t.tally.moved ≡ c.store.tally.moved → CarriesNear s t r i
-  CarriesNear-carried c t ripples carried now stays put_in moved =
-      CarriesNear-ended c t ripples (record { advances = carried.advances Ripple; few = omega (arith, carried.few, ap length carried.pending_in, length-remove s.pending_in i inside) }) now stays put_in moved (inl carried.pending_in)
+  CarriesNear-carried : (c : Carried) (t : State) → Ripples r (lifted i s) c → CarriedIn s t i → IsIntact t [] → StaysOutside c.store t r → t.tally.insertions ≡ c.store.tally.insertions → t.tally.moved ≡ c.store.tally.moved → CarriesNear s t r i
+  CarriesNear-carried c t ripples carried now stays insertions moved =
+      CarriesNear-ended c t ripples (record { advances = carried.advances Ripple; few = omega (arith, carried.few, ap length carried.pending_in, length-remove s.pending_in i inside) }) now stays insertions moved (inl carried.pending_in)
 
   CarriesNear-returned : (c : Carried) → Ripples r (lifted i s) c → ¬ IsDoomed c → r.high ≤ hand_key c → IsIntact c.store (c.hand ∷ []) → CarriesNear s (returned c) r i
   CarriesNear-returned c ripples kept behind now =

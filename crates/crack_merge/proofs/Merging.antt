@@ -84,8 +84,8 @@ pub record TakenOut (s t : State) (r : Range) : Type 0 where
   pub moves : MovesNear s t r
 
 -- no row is moved, and no counter of those put in falls
-moves_none : (moved before put_in after q : ℕ) → moved ≡ before → put_in ≤ after → moved + put_in * q ≤ before + after * q
-moves_none moved before put_in after q same rises = omega (arith, same, mul-le-mul_right q rises)
+moves_none : (moved before insertions after q : ℕ) → moved ≡ before → insertions ≤ after → moved + insertions * q ≤ before + after * q
+moves_none moved before insertions after q same rises = omega (arith, same, mul-le-mul_right q rises)
 
 pub TakenOut-pulled : (s t : State) (r : Range) → IsRangeOf s r → IsIntact s [] → PullsAll r (beyond s r) s t → TakenOut s t r
 TakenOut-pulled s t r of intact all =
@@ -102,7 +102,7 @@ TakenOut-pulled s t r of intact all =
         behind = λ each. StaysBehind-PullsOut s r of intact all.from all.seen t all.pulls (HadEach-pulled s r of intact all.from all.seen t was out each);
       };
       tallies = was.advances.tallies;
-      moves = λ exact. moves_none t.tally.moved s.tally.moved s.tally.put_in t.tally.put_in (piece_count s r) was.moved was.advances.tallies.rises.put_in;
+      moves = λ exact. moves_none t.tally.moved s.tally.moved s.tally.insertions t.tally.insertions (piece_count s r) was.moved was.advances.tallies.rises.insertions;
     }
 
 -- room was made before

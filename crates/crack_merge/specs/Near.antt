@@ -51,4 +51,4 @@ piece_count s r = count_by (λ bound. nat_lt r.low bound && nat_lt bound r.high)
 -- if every counter is exact, the rows that were inserted moved on average at most as many rows as the range has
 -- pieces
 abbrev pub MovesNear : State → State → Range → Type 0
-MovesNear s t r = IsExact t.tally → t.tally.moved + s.tally.put_in * piece_count s r ≤ s.tally.moved + t.tally.put_in * piece_count s r
+MovesNear s t r = IsExact t.tally → t.tally.moved + s.tally.insertions * piece_count s r ≤ s.tally.moved + t.tally.insertions * piece_count s r

@@ -38,7 +38,7 @@ pub fn carry_range(
     let mut from = first;
     'insertions: loop {
         let rule = carry(&mut carrying, ceiling);
-        carrying.facts();
+        carrying.recall_invariant();
         let Some(place) = carrying.seek_in(range, from) else {
             return Ok(end(carrying, rule));
         };
@@ -119,7 +119,7 @@ fn is_appendable(store: &Store, range: KeyRange) -> bool
     ensures low { IsTrue result → range.low ≤ store.now.keys.low }
     ensures high { IsTrue result → store.now.keys.high ≤ range.high }
 {
-    store.facts();
+    store.recall_invariant();
     let keys = store.keys();
     let has_all = range.low() <= keys.low() && keys.high() <= range.high();
     has_all && store.is_uncracked()

@@ -36,14 +36,14 @@ pub fn merge_complete(
     ensures err { IfErr result (λ e. e.1 ≡ Refusal.OutOfMemory) }
 {
     let before = store.tally();
-    store.facts();
+    store.recall_invariant();
     if !is_touched(&store, range) {
         return Ok((store, counted_between(before, before)));
     }
-    match put_in_all(store) {
+    match merge_insertions(store) {
         Ok(filled) => {
-            let merged = take_out_all(filled);
-            merged.facts();
+            let merged = merge_deletions(filled);
+            merged.recall_invariant();
             let after = merged.tally();
             Ok((merged, counted_between(before, after)))
         }
@@ -60,7 +60,7 @@ fn is_touched(store: &Store, range: KeyRange) -> bool
 
 /// Inserts all pending insertions, in order of arrival. Refused with `OutOfMemory` if no memory is found for one of
 /// them; rows inserted before stay where they are.
-fn put_in_all(mut store: Store) -> Result<Store, (Store, Refusal)>
+fn merge_insertions(mut store: Store) -> Result<Store, (Store, Refusal)>
     ensures ok { IfOk result (λ t. PutsIn Complete store t) }
     ensures all { IfOk result (λ t. t.pending_in ≡ []) }
     ensures spare { store.pending_in ≡ [] → IsOk result }
@@ -68,22 +68,22 @@ fn put_in_all(mut store: Store) -> Result<Store, (Store, Refusal)>
     ensures few { IfErr result (λ e. BuriesFew store e.0) }
     ensures err { IfErr result (λ e. e.1 ≡ Refusal.OutOfMemory) }
 {
-    store.facts();
+    store.recall_invariant();
     let count = store.pending_in();
-    if put_in_at_once(&mut store) {
+    if merge_insertions_at_once(&mut store) {
         return Ok(store);
     }
     if let Err(refusal) = store.make_room() {
-        store.facts();
+        store.recall_invariant();
         return Err((store, refusal));
     }
     let mut carrying = store.lift(0);
     'insertions: for taken in 1..count {
         let rule = carry(&mut carrying, None);
-        carrying.facts();
+        carrying.recall_invariant();
         if let Err(refusal) = carrying.make_room() {
             let stopped = end(carrying, rule);
-            stopped.facts();
+            stopped.recall_invariant();
             return Err((stopped, refusal));
         }
         end_and_lift(&mut carrying, rule, 0);
@@ -94,13 +94,13 @@ fn put_in_all(mut store: Store) -> Result<Store, (Store, Refusal)>
 
 /// Inserts all pending insertions at once, if that is worth it and memory is found for all. Returns whether none is
 /// left. O(pending insertions), and O(pieces) for each.
-fn put_in_at_once(store: &mut Store) -> bool
+fn merge_insertions_at_once(store: &mut Store) -> bool
     ensures puts { IsTrue result → PutsIn Complete store.old store.new }
     ensures all { IsTrue result → store.new.pending_in ≡ [] }
     ensures some { IsFalse result → 0 < length store.old.pending_in }
     ensures same { IsFalse result → SameButRoom store.old store.new }
 {
-    store.facts();
+    store.recall_invariant();
     if store.pending_in() == 0 {
         return true;
     }
@@ -110,14 +110,14 @@ fn put_in_at_once(store: &mut Store) -> bool
 
 /// Deletes all rows with pending deletions, in order of arrival, each by a pull that begins with the column's last
 /// row.
-fn take_out_all(store: Store) -> Store
+fn merge_deletions(store: Store) -> Store
     ensures takes { TakesOut Complete store result }
     ensures all { result.pending_out ≡ [] }
 {
-    store.facts();
+    store.recall_invariant();
     let keys = store.keys();
     let seen = store.pending_in();
     let emptied = pull_range(store, keys, KeyRange::default(), seen);
-    emptied.facts();
+    emptied.recall_invariant();
     emptied
 }

@@ -35,12 +35,12 @@ pub fn merge_gradual(
     ensures err { IfErr result (λ e. e.1 ≡ Refusal.OutOfMemory) }
 {
     let before = store.tally();
-    store.facts();
+    store.recall_invariant();
     match carry_range(store, range, None) {
         Ok(filled) => {
             let seen = filled.pending_in();
             let merged = pull_range(filled, range, KeyRange::default(), seen);
-            merged.facts();
+            merged.recall_invariant();
             let after = merged.tally();
             Ok((merged, counted_between(before, after)))
         }

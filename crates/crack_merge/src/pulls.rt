@@ -23,7 +23,7 @@ pub fn pull_range(mut store: Store, range: KeyRange, fillers: KeyRange, seen: us
     requires room { (length store.pending_in ≤ seen) ⊎ (0 < store.column_room) }
     ensures { PullsAll range fillers store result }
 {
-    store.facts();
+    store.recall_invariant();
     let Some(_) = store.next_out(range, 0) else {
         return store;
     };
@@ -58,7 +58,7 @@ fn pull_unfilled(mut store: Store, range: KeyRange, fillers: KeyRange, seen: usi
     requires room { (length store.pending_in ≤ seen) ⊎ (0 < store.column_room) }
     ensures { PullsAll range fillers store result }
 {
-    store.facts();
+    store.recall_invariant();
     if store.pull_in_bulk(range) {
         return store;
     }
@@ -74,7 +74,7 @@ fn pull_each(mut store: Store, range: KeyRange, fillers: KeyRange, seen: usize) 
     requires room { (length store.pending_in ≤ seen) ⊎ (0 < store.column_room) }
     ensures { PullsAll range fillers store result }
 {
-    store.facts();
+    store.recall_invariant();
     let Some(first) = store.next_out(range, 0) else {
         return store;
     };
@@ -84,7 +84,7 @@ fn pull_each(mut store: Store, range: KeyRange, fillers: KeyRange, seen: usize) 
     'deletions: loop {
         let doomed = carrying.doomed(from);
         draw(&mut carrying, doomed);
-        carrying.facts();
+        carrying.recall_invariant();
         let Some(place) = carrying.seek_out(range, from + 1) else {
             return carrying.bury();
         };
@@ -115,7 +115,7 @@ fn bury_and_begin(carrying: &mut Carrying, fillers: KeyRange, seen: usize) -> us
     requires some { 0 < length carrying.old.store.column }
     ensures { BeginsPull fillers (buried carrying.old) seen result carrying.new }
 {
-    carrying.facts();
+    carrying.recall_invariant();
     match carrying.seek_in(fillers, seen) {
         Some(place) => {
             carrying.bury_and_lift(place);
@@ -142,13 +142,13 @@ fn draw(carrying: &mut Carrying, doomed: Handle<Row>)
     ensures hand { carrying.new.hand ≡ doomed }
     ensures pending_out { carrying.new.store.pending_out ≡ carrying.old.store.pending_out }
 {
-    carrying.facts();
+    carrying.recall_invariant();
     // The row's place can't change before a step reaches it.
     let Some(place) = carrying.find(doomed) else {
         return;
     };
     carrying.pull_down(place);
-    carrying.facts();
+    carrying.recall_invariant();
     if carrying.holds(doomed) {
         return;
     }

@@ -9,8 +9,8 @@ pub fn counted_between(before: MergeReport, after: MergeReport) -> MergeReport
     ensures { result ≡ counted_between before after }
 {
     MergeReport {
-        put_in: after.put_in.saturating_sub(before.put_in),
-        taken_out: after.taken_out.saturating_sub(before.taken_out),
+        insertions: after.insertions.saturating_sub(before.insertions),
+        deletions: after.deletions.saturating_sub(before.deletions),
         evicted: after.evicted.saturating_sub(before.evicted),
         moved: after.moved.saturating_sub(before.moved),
         pulled: after.pulled.saturating_sub(before.pulled),

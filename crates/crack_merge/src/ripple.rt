@@ -42,7 +42,7 @@ pub fn merge_ripple(store: Store, range: KeyRange) -> Result<(Store, MergeReport
     ensures err { IfErr result (λ e. e.1 ≡ Refusal.OutOfMemory) }
 {
     let before = store.tally();
-    store.facts();
+    store.recall_invariant();
     let filled = match ripple_in(store, range) {
         Ok(filled) => filled,
         Err(stopped) => return Err(stopped),
@@ -76,7 +76,7 @@ pub fn ripple_in(store: Store, range: KeyRange) -> Result<Store, (Store, Refusal
     ensures still_cracked { IfErr result (λ e. IsCracked e.0 range) }
     ensures err { IfErr result (λ e. e.1 ≡ Refusal.OutOfMemory) }
 {
-    store.facts();
+    store.recall_invariant();
     carry_range(store, range, Some(range.high()))
 }
 
@@ -98,7 +98,7 @@ pub fn ripple_out(mut store: Store, range: KeyRange) -> Result<Store, (Store, Re
     ensures same { IfErr result (λ e. SameButRoom store e.0) }
     ensures err { IfErr result (λ e. e.1 ≡ Refusal.OutOfMemory) }
 {
-    store.facts();
+    store.recall_invariant();
     let Some(_) = store.first_out(range) else {
         return Ok(store);
     };

@@ -17,7 +17,7 @@ use Rattle.crack_row.specs.declared.command.Command.TheVariants.{Insert, Delete,
 use Rattle.crack_row.specs.declared.command.Policy.{Policy}
 use Rattle.crack_arena.specs.Arena.{Cell, cell_at, slots, cells_with}
 use Rattle.crack_state.specs.State.{State, live_at, live_rows}
-use Rattle.crack_state.specs.Steps.{SameButRoom, admitted}
+use Rattle.crack_state.specs.Steps.{SameButRoom, row_inserted}
 use Rattle.crack_state.specs.Points.{pending_by, handle_by, Removes, Rewrites}
 use Rattle.crack_part.specs.Parts.{Performs, ServesCleared}
 use Rattle.crack_part.specs.Inside.{inserted_row}
@@ -50,8 +50,8 @@ room most s change not takes none = elim (cases_lt (length s.cells) most) [
   | inr many ↦ absurd (both_ways (lacks_cell most s change) not (and_from (nat_le most (length s.cells)) ((length s.free == 0) && takes_cell s change) (le-leb most (length s.cells) many) (and_from (length s.free == 0) (takes_cell s change) (eq-eqb (length s.free) 0 none) takes)))
 ]
 
-fits-admitted : (most : ℕ) (row : Row) (s t : State) → length s.cells ≤ most → (length s.free ≡ 0 → length s.cells < most) → SameButRoom (admitted row s) t → length t.cells ≤ most
-fits-admitted most row s t few free same = omega (arith, ap (λ (u : State). length u.cells) same.same, length-cells_with row s.cells s.free most few free)
+fits-row_inserted : (most : ℕ) (row : Row) (s t : State) → length s.cells ≤ most → (length s.free ≡ 0 → length s.cells < most) → SameButRoom (row_inserted row s) t → length t.cells ≤ most
+fits-row_inserted most row s t few free same = omega (arith, ap (λ (u : State). length u.cells) same.same, length-cells_with row s.cells s.free most few free)
 
 fits-removed : (most : ℕ) (serial : ℕ) (s t : State) (o : Option Bool) → length s.cells ≤ most → Removes o serial s t → length t.cells ≤ most
 fits-removed most serial s t None few same = omega (arith, ap (λ (u : State). length u.cells) same)
@@ -73,8 +73,8 @@ fits-replaced most row s t (Some false) few free renews =
 -- after a change that doesn't lack a cell there are no more cells than the limit
 fits-performed : (most next : ℕ) (change : Option Change) (s t : State) → length s.cells ≤ most → lacks_cell most s change ≡ false → Performs next change s t → length t.cells ≤ most
 fits-performed most next None s t few not same = omega (arith, ap (λ (u : State). length u.cells) same)
-fits-performed most next (Some (Place key payload)) s t few not admits =
-    fits-admitted most (inserted_row next key payload) s t few (room most s (Some (Place key payload)) not refl) admits
+fits-performed most next (Some (Place key payload)) s t few not inserts =
+    fits-row_inserted most (inserted_row next key payload) s t few (room most s (Some (Place key payload)) not refl) inserts
 fits-performed most next (Some (Remove serial)) s t few not removes = fits-removed most serial.0 s t (pending_by s serial.0) few removes
 fits-performed most next (Some (Rewrite serial key payload)) s t few not replaces =
     fits-replaced most (row_with serial key payload) s t (pending_by s serial.0) few (λ stands. room most s (Some (Rewrite serial key payload)) not (rw stands refl)) replaces

@@ -62,12 +62,12 @@ Spares-served policy p command t none served =
 state-unchanged : (p q : Part) (command : Command) → change_of command ≡ None → state_of q ≡ after (state_of p) command → state_of q ≡ state_of p
 state-unchanged p q command none state = state ∙ ap (λ (change : Option Change). changed (state_of p) change) none
 
-pub table-recounted : (p q : Part) (command : Command) → change_of command ≡ None → state_of q ≡ after (state_of p) command → table_of (record q { folded = p.folded; since = p.since }) ≡ table_of p
+pub table-recounted : (p q : Part) (command : Command) → change_of command ≡ None → state_of q ≡ after (state_of p) command → table_of (record q { checkpointed = p.checkpointed; since = p.since }) ≡ table_of p
 table-recounted p q command none state =
-    let with_counts : PlainState → PlainView = λ s. record { state = s; folded = p.folded; since = p.since } in
+    let with_counts : PlainState → PlainView = λ s. record { state = s; checkpointed = p.checkpointed; since = p.since } in
     ap with_counts (state-unchanged p q command none state)
 
-pub KnowsPart-recounted : (known : Known) (policy : Policy) (p q old new : Part) (command : Command) → p ≡ old → q ≡ new → change_of command ≡ None → IsSound p → KnowsPart known q → (new.keys ≡ old.keys) × (new.limits ≡ old.limits) → Serves policy old command new.store → state_of new ≡ after (state_of old) command → KnowsPart known (record q { folded = p.folded; since = p.since })
+pub KnowsPart-recounted : (known : Known) (policy : Policy) (p q old new : Part) (command : Command) → p ≡ old → q ≡ new → change_of command ≡ None → IsSound p → KnowsPart known q → (new.keys ≡ old.keys) × (new.limits ≡ old.limits) → Serves policy old command new.store → state_of new ≡ after (state_of old) command → KnowsPart known (record q { checkpointed = p.checkpointed; since = p.since })
 KnowsPart-recounted known policy p q old new command from to none before now opened served state =
     let keys : q.keys ≡ p.keys = ap (λ (x : Part). x.keys) to ∙ opened.0 ∙ sym (ap (λ (x : Part). x.keys) from) in
     let limits : q.limits ≡ p.limits = ap (λ (x : Part). x.limits) to ∙ opened.1 ∙ sym (ap (λ (x : Part). x.limits) from) in

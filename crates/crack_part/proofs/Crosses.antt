@@ -46,7 +46,7 @@ reply-send = search (sendable, crosses) depth 30
 known-send : IsSend KnownSums.the_field.row
 known-send = let p = pieces-send in search (sendable, crosses) depth 30
 
--- alloc, keys, limits, next, folded, since, store, passes, known
+-- alloc, keys, limits, next, checkpointed, since, store, passes, known
 part-send : IsSend part.the_field.row
 part-send =
     struct_send (shape part.the_type) (search (sendable, crosses) depth 30, (search (sendable, crosses) depth 30, (search (sendable, crosses) depth 30, (search (sendable, crosses) depth 30, (search (sendable, crosses) depth 30, (search (sendable, crosses) depth 30, (store-send, (search (sendable, crosses) depth 30, (known-send, tt)))))))))

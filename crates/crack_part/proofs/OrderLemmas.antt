@@ -43,7 +43,7 @@ rows-listed p (Err e) rows sound same rising = tt
 -- the plain table stays the same if the live rows do
 pub table_of-kept : (p q : Part) → q ≡ record p { store = q.store } → live_rows q.store ≡ live_rows p.store → table_of q ≡ table_of p
 table_of-kept p q same live =
-    ap table_of same ∙ ap (λ (rows : List Row). record { state = record { rows = by_serial rows; next = p.next }; folded = p.folded; since = p.since }) live
+    ap table_of same ∙ ap (λ (rows : List Row). record { state = record { rows = by_serial rows; next = p.next }; checkpointed = p.checkpointed; since = p.since }) live
 
 -- as many rows as serials below the next have room for
 below-rising : (rows : List Row) (least next : ℕ) → AreRising rows → All (λ (r : Row). least ≤ r.serial.0) rows → All (λ (r : Row). r.serial.0 < next) rows → least ≤ next → length rows + least ≤ next

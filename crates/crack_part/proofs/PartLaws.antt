@@ -35,8 +35,8 @@ KnowsPart-cleared known p t (Err e) sound done stopped knows =
 pub state-served : (p : Part) (command : Command) (next : ℕ) (t : State) → IsSound p → IsFaithful t next (after (state_of p) command) → ◌≡◌ {A = PlainState} (record { rows = by_serial (live_rows t); next = next }) (after (state_of p) command)
 state-served p command next t sound faithful = state-faithful t next (after (state_of p) command) faithful (IsNumbered-after (state_of p) command sound.numbered)
 
-pub KnowsPart-served : (known : Known) (p : Part) (command : Command) (next folded since : ℕ) (t : State) → IsSound p → folded ≡ (if is_due p.limits p.since then p.folded + p.since else p.folded) → since ≡ (if is_due p.limits p.since then 0 else p.since) + 1 → is_full p.limits p.since ≡ false → p.folded + p.since < p.limits.life → length t.cells ≤ p.limits.cells → IsIntact t [] → IsFaithful t next (after (state_of p) command) → Spends 1 1 p.store t × SpendsNone p.store t → KnowsSums known (after (state_of p) command) → KnowsPart known (record p { next = next; folded = folded; since = since; store = t })
-KnowsPart-served known p command next folded since t sound counted more unshut life fits intact faithful spends knows = record {
-  sound = IsSound-served p command next folded since t sound (counts-one p.limits (table_of p) folded since counted more) (since-le-history p.limits p.since since sound.limited.history.0 unshut more) life fits intact faithful spends;
+pub KnowsPart-served : (known : Known) (p : Part) (command : Command) (next checkpointed since : ℕ) (t : State) → IsSound p → checkpointed ≡ (if is_due p.limits p.since then p.checkpointed + p.since else p.checkpointed) → since ≡ (if is_due p.limits p.since then 0 else p.since) + 1 → is_full p.limits p.since ≡ false → p.checkpointed + p.since < p.limits.life → length t.cells ≤ p.limits.cells → IsIntact t [] → IsFaithful t next (after (state_of p) command) → Spends 1 1 p.store t × SpendsNone p.store t → KnowsSums known (after (state_of p) command) → KnowsPart known (record p { next = next; checkpointed = checkpointed; since = since; store = t })
+KnowsPart-served known p command next checkpointed since t sound counted more unshut life fits intact faithful spends knows = record {
+  sound = IsSound-served p command next checkpointed since t sound (counts-one p.limits (table_of p) checkpointed since counted more) (since-le-history p.limits p.since since sound.limited.history.0 unshut more) life fits intact faithful spends;
   knows = subst (KnowsSums known) (sym (state-served p command next t sound faithful)) knows;
 }

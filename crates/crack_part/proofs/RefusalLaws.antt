@@ -27,18 +27,18 @@ within-true keys (Some key) is =
 pub record MayKeep (p : Part) (command : Command) : Type 0 where
   pub within : IsWithin p.keys command
   pub goes_on : is_full p.limits p.since ≡ false
-  pub lives : p.folded + p.since < p.limits.life
+  pub lives : p.checkpointed + p.since < p.limits.life
 
 pub may-keep : (p : Part) (command : Command) → early_refusal_of p command ≡ None → MayKeep p command
 may-keep p command none =
     let own = is_key_in p.keys (key_of command) in
     let full = is_full p.limits p.since in
-    let over = nat_le p.limits.life (p.folded + p.since) in
+    let over = nat_le p.limits.life (p.checkpointed + p.since) in
     let tests = passed own full over none in
     record {
       within = within-true p.keys (key_of command) tests.0;
       goes_on = tests.1;
-      lives = leb-false p.limits.life (p.folded + p.since) tests.2;
+      lives = leb-false p.limits.life (p.checkpointed + p.since) tests.2;
     }
   where
     passed : (own full over : Bool) → ◌≡◌ {A = Option Refusal} (if own then option_or (if full then Some (HistoryFull p.limits.history) else (if over then Some LifeOver else None)) None else Some KeyOutside) None → (own ≡ true) × (full ≡ false) × (over ≡ false)

@@ -17,17 +17,17 @@ use Rattle.crack_row.specs.declared.refusal.Refusal.{Refusal}
 use Rattle.crack_row.specs.declared.refusal.Refusal.TheVariants.{OutOfMemory, KeyOutside, HistoryFull, LifeOver}
 use Rattle.crack_arena.specs.Arena.{Cell, cell_at, cells_with}
 use Rattle.crack_state.specs.State.{State}
-use Rattle.crack_state.specs.Steps.{SameButRoom, admitted}
-use Rattle.crack_state.proofs.AdmitLaws.{IsIntact-admitted}
+use Rattle.crack_state.specs.Steps.{SameButRoom, row_inserted}
+use Rattle.crack_state.proofs.InsertLaws.{IsIntact-row_inserted}
 use Rattle.crack_state.proofs.KeyedLaws.{handle_of-fresh}
 use Rattle.crack_state.proofs.StepLaws.{IsIntact-room}
-use Rattle.crack_store.specs.Runs.{run_rows, all_admitted, AreAdmissible}
+use Rattle.crack_store.specs.Runs.{run_rows, rows_inserted, AreInsertable}
 use Rattle.crack_part.specs.Parts.{Part, IsSound, Serves, Spares, ServesCleared, state_of, table_of}
 use Rattle.crack_part.specs.Cells.{lacks_cell}
 use Rattle.crack_part.specs.Inside.{inserted_row, early_refusal_of}
 use Rattle.crack_part.specs.KnownSums.{Known, KnowsPart}
 use Rattle.crack_part.specs.Refusals.{refusal_of}
-use Rattle.crack_part.specs.Runs.{InsertsAt, InsertsRun, no_row, next_row}
+use Rattle.crack_part.specs.Runs.{InsertsInto, InsertsRun, no_row, next_row}
 use Rattle.crack_part.specs.Upkeep.{is_automatic, is_due, is_full}
 use Rattle.crack_part.proofs.ApplyLaws.{applies-short}
 use Rattle.crack_part.proofs.CellLemmas.{fits-served}
@@ -37,13 +37,13 @@ use Rattle.crack_part.proofs.KnownLemmas.{Knows-placed}
 use Rattle.crack_part.proofs.OrderLemmas.{IsFaithful-own, table_of-kept}
 use Rattle.crack_part.proofs.PartLaws.{KnowsPart-served, KnowsPart-kept, state-served}
 use Rattle.crack_part.proofs.RefusalLaws.{refused-with_cell}
-use Rattle.crack_part.proofs.SoundLemmas.{IsAdmissible-placed, IsFaithful-placed, Spends-served, next-above}
+use Rattle.crack_part.proofs.SoundLemmas.{IsInsertable-placed, IsFaithful-placed, Spends-served, next-above}
 use Rattle.crack_part.proofs.UpkeepLaws.{table-answered}
 
 -- a partition may take so many more rows without upkeep, as far as its limits go
 pub record MayTake (p : Part) (count : ℕ) : Type 0 where
   pub history : p.since + count ≤ p.limits.history
-  pub life : p.folded + p.since + count ≤ p.limits.life
+  pub life : p.checkpointed + p.since + count ≤ p.limits.life
   pub cells : length p.store.cells + count ≤ p.limits.cells + length p.store.free
 
 -- a free cell is taken, or one more is made
@@ -80,14 +80,14 @@ not-full limits since below = rw (lt-leb limits.history since below) refl
 
 pub none-refuses : (p : Part) (key : Key) (payload : Payload) → MayTake p 1 → IsIn p.keys key.0 → early_refusal_of p (Insert key payload) ≡ None
 none-refuses p key payload may within =
-    early-none p.limits (is_in p.keys key.0) (is_full p.limits p.since) (nat_le p.limits.life (p.folded + p.since)) (own-key p.keys key.0 within) (not-full p.limits p.since (omega (arith, may.history))) (lt-leb p.limits.life (p.folded + p.since) (omega (arith, may.life)))
+    early-none p.limits (is_in p.keys key.0) (is_full p.limits p.since) (nat_le p.limits.life (p.checkpointed + p.since)) (own-key p.keys key.0 within) (not-full p.limits p.since (omega (arith, may.history))) (lt-leb p.limits.life (p.checkpointed + p.since) (omega (arith, may.life)))
 
 -- a partition that takes one more row
 pub record Takes (known : Known) (keys : List ℕ) (payloads : List ℤ) (k : ℕ) (p q : Part) : Type 0 where
-  pub inserts : InsertsAt keys payloads k (Ok (Placed (record { 0 = p.next }))) p q
+  pub inserts : InsertsInto keys payloads k (Ok (Placed (record { 0 = p.next }))) p q
   pub knows : KnowsPart known q
 
-pub takes : (known : Known) (keys : List ℕ) (payloads : List ℤ) (k : ℕ) (p : Part) (t : State) → KnowsPart known p → MayTake p 1 → IsIn p.keys (slice_index_or keys k 0) → SameButRoom (admitted (inserted_row p.next (record { 0 = slice_index_or keys k 0 }) (record { 0 = slice_index_or payloads k (pos 0) })) p.store) t → Takes known keys payloads k p (record p { next = p.next + 1; since = p.since + 1; store = t })
+pub takes : (known : Known) (keys : List ℕ) (payloads : List ℤ) (k : ℕ) (p : Part) (t : State) → KnowsPart known p → MayTake p 1 → IsIn p.keys (slice_index_or keys k 0) → SameButRoom (row_inserted (inserted_row p.next (record { 0 = slice_index_or keys k 0 }) (record { 0 = slice_index_or payloads k (pos 0) })) p.store) t → Takes known keys payloads k p (record p { next = p.next + 1; since = p.since + 1; store = t })
 takes known keys payloads k p t is may within same =
     let key : Key = record { 0 = slice_index_or keys k 0 } in
     let payload : Payload = record { 0 = slice_index_or payloads k (pos 0) } in
@@ -96,17 +96,17 @@ takes known keys payloads k p t is may within same =
     let sound = is.sound in
     let lacks = has-cell p.limits.cells p.store key payload (omega (arith, may.cells)) in
     let served : ServesCleared Gradual p.keys p.next command p.store t = record { ready = p.store; prepared = refl; performed = same } in
-    let lives : p.folded + p.since < p.limits.life = omega (arith, may.life) in
+    let lives : p.checkpointed + p.since < p.limits.life = omega (arith, may.life) in
     let below : p.since < p.limits.history = omega (arith, may.history) in
     let undue = not-at p.limits p.since below in
-    let counted : p.folded ≡ (if is_due p.limits p.since then p.folded + p.since else p.folded) = rw undue refl in
+    let counted : p.checkpointed ≡ (if is_due p.limits p.since then p.checkpointed + p.since else p.checkpointed) = rw undue refl in
     let more : p.since + 1 ≡ (if is_due p.limits p.since then 0 else p.since) + 1 = rw undue refl in
     let faithful = IsFaithful-placed p.store t p.next key payload (state_of p) sound.intact same (IsFaithful-own p) in
-    let intact = IsIntact-room (admitted row p.store) t [] same (IsIntact-admitted row p.store (IsAdmissible-placed p key payload sound within) sound.intact) in
+    let intact = IsIntact-room (row_inserted row p.store) t [] same (IsIntact-row_inserted row p.store (IsInsertable-placed p key payload sound within) sound.intact) in
     let spends = Spends-served Gradual p command t sound lives within served in
     let fits = fits-served Gradual p.keys p.limits.cells p.next command p.store t sound.cells lacks served in
     let knows = Knows-placed known (state_of p) key payload is.knows in
-    let now = KnowsPart-served known p command (p.next + 1) p.folded (p.since + 1) t sound counted more (not-full p.limits p.since below) lives fits intact faithful spends knows in
+    let now = KnowsPart-served known p command (p.next + 1) p.checkpointed (p.since + 1) t sound counted more (not-full p.limits p.since below) lives fits intact faithful spends knows in
     let state = state-served p command (p.next + 1) t sound faithful in
     let none' = refused-with_cell p command lacks ∙ none-refuses p key payload may within in
     record {
@@ -129,7 +129,7 @@ takes known keys payloads k p t is may within same =
     }
 
 -- a partition that finds no memory for the next row
-pub takes-none : (known : Known) (keys : List ℕ) (payloads : List ℤ) (k : ℕ) (p : Part) (t : State) → KnowsPart known p → MayTake p 1 → IsIn p.keys (slice_index_or keys k 0) → SameButRoom p.store t → InsertsAt keys payloads k (Err OutOfMemory) p (record p { store = t }) × KnowsPart known (record p { store = t })
+pub takes-none : (known : Known) (keys : List ℕ) (payloads : List ℤ) (k : ℕ) (p : Part) (t : State) → KnowsPart known p → MayTake p 1 → IsIn p.keys (slice_index_or keys k 0) → SameButRoom p.store t → InsertsInto keys payloads k (Err OutOfMemory) p (record p { store = t }) × KnowsPart known (record p { store = t })
 takes-none known keys payloads k p t is may within same =
     let key : Key = record { 0 = slice_index_or keys k 0 } in
     let payload : Payload = record { 0 = slice_index_or payloads k (pos 0) } in
@@ -156,16 +156,16 @@ take-rows zero (suc count) first serial (key ∷ keys) (payload ∷ payloads) is
 take-rows (suc n) (suc count) first serial (key ∷ keys) (payload ∷ payloads) is few in_keys in_payloads =
     ap (λ (rows : List Row). inserted_row first (record { 0 = key }) (record { 0 = payload }) ∷ rows) (take-rows n count (suc first) serial keys payloads (omega (arith, is)) (omega (arith, few)) (omega (arith, in_keys)) (omega (arith, in_payloads)))
 
-admitted-last : (rows : List Row) (row : Row) (s : State) → all_admitted (rows ++ row ∷ []) s ≡ admitted row (all_admitted rows s)
-admitted-last [] row s = refl
-admitted-last (r ∷ rows) row s = admitted-last rows row (admitted r s)
+row_inserted-last : (rows : List Row) (row : Row) (s : State) → rows_inserted (rows ++ row ∷ []) s ≡ row_inserted row (rows_inserted rows s)
+row_inserted-last [] row s = refl
+row_inserted-last (r ∷ rows) row s = row_inserted-last rows row (row_inserted r s)
 
 -- the store after one more row of a run
-more-admitted : (n count first serial : ℕ) (keys : List ℕ) (payloads : List ℤ) (s : State) → serial ≡ first + n → n < count → n < length keys → n < length payloads → all_admitted (take (suc n) (run_rows first (take count keys) (take count payloads))) s ≡ admitted (inserted_row serial (record { 0 = slice_index_or keys n 0 }) (record { 0 = slice_index_or payloads n (pos 0) })) (all_admitted (take n (run_rows first (take count keys) (take count payloads))) s)
-more-admitted n count first serial keys payloads s is few in_keys in_payloads =
+more-row_inserted : (n count first serial : ℕ) (keys : List ℕ) (payloads : List ℤ) (s : State) → serial ≡ first + n → n < count → n < length keys → n < length payloads → rows_inserted (take (suc n) (run_rows first (take count keys) (take count payloads))) s ≡ row_inserted (inserted_row serial (record { 0 = slice_index_or keys n 0 }) (record { 0 = slice_index_or payloads n (pos 0) })) (rows_inserted (take n (run_rows first (take count keys) (take count payloads))) s)
+more-row_inserted n count first serial keys payloads s is few in_keys in_payloads =
     let rows = take n (run_rows first (take count keys) (take count payloads)) in
     let row = inserted_row serial (record { 0 = slice_index_or keys n 0 }) (record { 0 = slice_index_or payloads n (pos 0) }) in
-    ap (λ (rs : List Row). all_admitted rs s) (take-rows n count first serial keys payloads is few in_keys in_payloads) ∙ admitted-last rows row s
+    ap (λ (rs : List Row). rows_inserted rs s) (take-rows n count first serial keys payloads is few in_keys in_payloads) ∙ row_inserted-last rows row s
 
 -- what a run of rows needs: all keys are the partition's, and the limits leave room
 pub record MayRun (keys : List ℕ) (payloads : List ℤ) (p : Part) (count : ℕ) : Type 0 where
@@ -179,7 +179,7 @@ record Reaches (known : Known) (keys : List ℕ) (payloads : List ℤ) (p : Part
   inserts : InsertsRun keys payloads p n q
   knows : KnowsPart known q
   is : q ≡ record p { next = p.next + n; since = p.since + n; store = q.store }
-  store : q.store ≡ all_admitted (take n (run_rows p.next (take count keys) (take count payloads))) p.store
+  store : q.store ≡ rows_inserted (take n (run_rows p.next (take count keys) (take count payloads))) p.store
   cells : length q.store.cells + count ≤ p.limits.cells + length q.store.free + n
 
 part-same : (p : Part) (next since n m : ℕ) (t : State) → next ≡ n → since ≡ m → ◌≡◌ {A = Part} (record p { next = next; since = since; store = t }) (record p { next = n; since = m; store = t })
@@ -189,20 +189,20 @@ part-same p next since n m t a b = rw (a, b) refl
 may-more : (known : Known) (keys : List ℕ) (payloads : List ℤ) (p q : Part) (count n : ℕ) → n < count → MayRun keys payloads p count → Reaches known keys payloads p count n q → MayTake q 1
 may-more known keys payloads p q count n few run at =
     let since = ap (λ (x : Part). x.since) at.is in
-    let folded = ap (λ (x : Part). x.folded) at.is in
+    let checkpointed = ap (λ (x : Part). x.checkpointed) at.is in
     let limits = ap (λ (x : Part). x.limits) at.is in
     record {
       history = rw limits (omega (arith, since, few, run.may.history));
-      life = rw limits (omega (arith, since, folded, few, run.may.life));
+      life = rw limits (omega (arith, since, checkpointed, few, run.may.life));
       cells = rw limits (omega (arith, few, at.cells));
     }
 
 -- and the store after it is that of one more row of the run
-takes-more : (known : Known) (keys : List ℕ) (payloads : List ℤ) (p q : Part) (count n : ℕ) (t : State) → n < count → MayRun keys payloads p count → Reaches known keys payloads p count n q → SameButRoom (all_admitted (take (suc n) (run_rows p.next (take count keys) (take count payloads))) p.store) t → Takes known keys payloads n q (record q { next = q.next + 1; since = q.since + 1; store = t })
+takes-more : (known : Known) (keys : List ℕ) (payloads : List ℤ) (p q : Part) (count n : ℕ) (t : State) → n < count → MayRun keys payloads p count → Reaches known keys payloads p count n q → SameButRoom (rows_inserted (take (suc n) (run_rows p.next (take count keys) (take count payloads))) p.store) t → Takes known keys payloads n q (record q { next = q.next + 1; since = q.since + 1; store = t })
 takes-more known keys payloads p q count n t few run at same =
     let next = ap (λ (x : Part). x.next) at.is in
     let of_keys = ap (λ (x : Part). x.keys) at.is in
-    let more = more-admitted n count p.next q.next keys payloads p.store next few (omega (arith, few, run.in_keys)) (omega (arith, few, run.in_payloads)) in
+    let more = more-row_inserted n count p.next q.next keys payloads p.store next few (omega (arith, few, run.in_keys)) (omega (arith, few, run.in_payloads)) in
     takes known keys payloads n q t at.knows (may-more known keys payloads p q count n few run at) (rw of_keys (run.within n few)) (rw (at.store, ← more) same)
 
 reaches-none : (known : Known) (keys : List ℕ) (payloads : List ℤ) (p : Part) (count : ℕ) → KnowsPart known p → MayRun keys payloads p count → Reaches known keys payloads p count 0 p
@@ -216,13 +216,13 @@ reaches-none known keys payloads p count knows run = record {
 
 reaches-more : (known : Known) (keys : List ℕ) (payloads : List ℤ) (p q : Part) (count n : ℕ) → n < count → MayRun keys payloads p count → Reaches known keys payloads p count n q → (r : Part) × Reaches known keys payloads p count (suc n) r
 reaches-more known keys payloads p q count n few run at =
-    let t = all_admitted (take (suc n) (run_rows p.next (take count keys) (take count payloads))) p.store in
+    let t = rows_inserted (take (suc n) (run_rows p.next (take count keys) (take count payloads))) p.store in
     let took = takes-more known keys payloads p q count n t few run at (record { same = refl }) in
     let r : Part = record q { next = q.next + 1; since = q.since + 1; store = t } in
     let next = ap (λ (x : Part). x.next) at.is in
     let row = inserted_row q.next (record { 0 = slice_index_or keys n 0 }) (record { 0 = slice_index_or payloads n (pos 0) }) in
-    let more : t ≡ admitted row q.store = more-admitted n count p.next q.next keys payloads p.store next few (omega (arith, few, run.in_keys)) (omega (arith, few, run.in_payloads)) ∙ ap (admitted row) (sym at.store) in
-    let left : length (admitted row q.store).cells + (count - suc n) ≤ p.limits.cells + length (admitted row q.store).free = cells-left row q.store.cells q.store.free p.limits.cells (count - suc n) (omega (arith, few, at.cells)) in (
+    let more : t ≡ row_inserted row q.store = more-row_inserted n count p.next q.next keys payloads p.store next few (omega (arith, few, run.in_keys)) (omega (arith, few, run.in_payloads)) ∙ ap (row_inserted row) (sym at.store) in
+    let left : length (row_inserted row q.store).cells + (count - suc n) ≤ p.limits.cells + length (row_inserted row q.store).free = cells-left row q.store.cells q.store.free p.limits.cells (count - suc n) (omega (arith, few, at.cells)) in (
       r,
       record {
         inserts = subst (λ (i : ℕ). InsertsRun keys payloads p i r) (omega arith) (next_row n q r at.inserts took.inserts);
@@ -243,7 +243,7 @@ reaches known keys payloads p count (suc n) few knows run =
     reaches-more known keys payloads p before.0 count n (omega (arith, few)) run before.1
 
 -- a partition whose store has the first rows of a run took them one after the other
-pub runs : (known : Known) (keys : List ℕ) (payloads : List ℤ) (p : Part) (count taken : ℕ) (t : State) → 0 < taken → taken ≤ count → KnowsPart known p → MayRun keys payloads p count → SameButRoom (all_admitted (take taken (run_rows p.next (take count keys) (take count payloads))) p.store) t → InsertsRun keys payloads p taken (record p { next = p.next + taken; since = p.since + taken; store = t }) × KnowsPart known (record p { next = p.next + taken; since = p.since + taken; store = t })
+pub runs : (known : Known) (keys : List ℕ) (payloads : List ℤ) (p : Part) (count taken : ℕ) (t : State) → 0 < taken → taken ≤ count → KnowsPart known p → MayRun keys payloads p count → SameButRoom (rows_inserted (take taken (run_rows p.next (take count keys) (take count payloads))) p.store) t → InsertsRun keys payloads p taken (record p { next = p.next + taken; since = p.since + taken; store = t }) × KnowsPart known (record p { next = p.next + taken; since = p.since + taken; store = t })
 runs known keys payloads p count zero t some few knows run same = absurd (omega (arith, some))
 runs known keys payloads p count (suc n) t some few knows run same =
     let before = reaches known keys payloads p count n (omega (arith, few)) knows run in
@@ -255,7 +255,7 @@ runs known keys payloads p count (suc n) t some few knows run same =
     let chain = subst (λ (i : ℕ). InsertsRun keys payloads p i (record q { next = q.next + 1; since = q.since + 1; store = t })) (omega arith) (next_row n q (record q { next = q.next + 1; since = q.since + 1; store = t }) at.inserts took.inserts) in
     (subst (λ (x : Part). InsertsRun keys payloads p (suc n) x) is chain, subst (λ (x : Part). KnowsPart known x) is took.knows)
 
--- the rows of a run may be admitted to the store
+-- the rows of a run may be inserted to the store
 all-taken : (r : Range) (count : ℕ) (keys : List ℕ) → ((k : ℕ) → k < count → IsIn r (slice_index_or keys k 0)) → All (IsIn r) (take count keys)
 all-taken r zero keys h k d within = absurd (omega (arith, within))
 all-taken r (suc count) [] h k d within = absurd (omega (arith, within))
@@ -267,13 +267,13 @@ length-taken zero keys = omega arith
 length-taken (suc count) [] = omega arith
 length-taken (suc count) (key ∷ keys) = omega (arith, length-taken count keys)
 
-pub are-admissible : (keys : List ℕ) (payloads : List ℤ) (p : Part) (count : ℕ) → IsSound p → MayRun keys payloads p count → AreAdmissible p.next (take count keys) p.store
-are-admissible keys payloads p count sound run = record {
+pub are-insertable : (keys : List ℕ) (payloads : List ℤ) (p : Part) (count : ℕ) → IsSound p → MayRun keys payloads p count → AreInsertable p.next (take count keys) p.store
+are-insertable keys payloads p count sound run = record {
   fresh = λ serial from below. handle_of-fresh p.store [] serial sound.intact (λ k d within. let less = next-above p sound k d within in omega (arith, less, from));
   within = rw sound.ends (all-taken p.keys count keys run.within);
   cells = omega (arith, length-taken count keys, run.may.cells, sound.limited.cells.1);
 }
 
 -- the last serial of a run is far below the greatest number
-pub next-after : (p : Part) (count : ℕ) → IsSound p → p.folded + p.since + count ≤ p.limits.life → p.next + count < 2 ^ 64
+pub next-after : (p : Part) (count : ℕ) → IsSound p → p.checkpointed + p.since + count ≤ p.limits.life → p.next + count < 2 ^ 64
 next-after p count sound life = omega (arith, sound.few_placed, life, sound.limited.life.1)

@@ -23,20 +23,20 @@ use Rattle.crack_plain.proofs.Laws.{IsNumbered-no_rows, IsNumbered-after, next-c
 use Rattle.crack_plain.proofs.OrderLaws.{IsPermutation-by_serial}
 use Rattle.crack_arena.specs.declared.TheConstants.{MOST_CELLS}
 use Rattle.crack_state.specs.State.{State, live_rows, freed_of, IsIntact}
-use Rattle.crack_state.specs.Steps.{IsAdmissible, SameButRoom, admitted}
+use Rattle.crack_state.specs.Steps.{IsInsertable, SameButRoom, row_inserted}
 use Rattle.crack_state.specs.Points.{pending_by, handle_by, MayFree, IsRenewable, IsRewritable, Removes, Rewrites}
 use Rattle.crack_state.proofs.KeyedLaws.{handle_of-fresh}
-use Rattle.crack_state.proofs.AdmitLaws.{live_rows-admitted, freed-admitted, cells-admitted}
+use Rattle.crack_state.proofs.InsertLaws.{live_rows-row_inserted, freed-row_inserted, cells-row_inserted}
 use Rattle.crack_state.proofs.PointLaws.{Spends, Spends-cancels, Spends-dooms, Spends-rewrites, found_by, stands1}
 use Rattle.crack_store.specs.Inside.{no_cells}
-use Rattle.crack_part.specs.Parts.{Part, IsLimit, IsSound, folded_part, IsFaithful, ServesCleared, Prepares, Performs, state_of}
+use Rattle.crack_part.specs.Parts.{Part, IsLimit, IsSound, checkpointed_part, IsFaithful, ServesCleared, Prepares, Performs, state_of}
 use Rattle.crack_part.specs.Inside.{inserted_row, MayPerform}
 use Rattle.crack_part.proofs.CellLemmas.{rows-le-cells}
 use Rattle.crack_part.proofs.KeepLemmas.{Keeps, Keeps-room, Keeps-prepared, IsIntact-prepared}
 use Rattle.crack_part.proofs.OrderLemmas.{state-faithful}
 
 -- it has accepted no more commands than a life may have
-pub accepted-le-life : (p : Part) → IsSound p → p.folded + p.since ≤ GREATEST_LIFE
+pub accepted-le-life : (p : Part) → IsSound p → p.checkpointed + p.since ≤ GREATEST_LIFE
 accepted-le-life p sound = omega (arith, sound.lived, sound.limited.life.1)
 
 -- the next serial stays far below the greatest number
@@ -58,12 +58,12 @@ few_cells : (p : Part) → IsSound p → length p.store.cells < MOST_CELLS + len
 few_cells p sound = omega (arith, sound.cells, sound.limited.cells.1)
 
 -- before a command of its life, one more may be freed
-few_freed : (p : Part) → IsSound p → p.folded + p.since < p.limits.life → MayFree p.store
+few_freed : (p : Part) → IsSound p → p.checkpointed + p.since < p.limits.life → MayFree p.store
 few_freed p sound lives = omega (arith, sound.few_freed, sound.limited.life.1, lives)
 
--- a row that is placed may be admitted
-pub IsAdmissible-placed : (p : Part) (key : Key) (payload : Payload) → IsSound p → IsIn p.keys key.0 → IsAdmissible (inserted_row p.next key payload) p.store
-IsAdmissible-placed p key payload sound within = record {
+-- a row that is placed may be inserted
+pub IsInsertable-placed : (p : Part) (key : Key) (payload : Payload) → IsSound p → IsIn p.keys key.0 → IsInsertable (inserted_row p.next key payload) p.store
+IsInsertable-placed p key payload sound within = record {
   fresh = handle_of-fresh p.store [] p.next sound.intact (next-above p sound);
   within = rw sound.ends within;
   cell = few_cells p sound;
@@ -74,9 +74,9 @@ abbrev BringsWithin : Range → Option Change → Type 0
 BringsWithin keys change = IfSome (option_and_then brought_key change) (λ (key : Key). IsIn keys key.0)
 
 -- a change whose key is the partition's may be made
-MayPerform-within : (p : Part) (change : Option Change) → IsSound p → p.folded + p.since < p.limits.life → BringsWithin p.keys change → MayPerform p.next change p.store
+MayPerform-within : (p : Part) (change : Option Change) → IsSound p → p.checkpointed + p.since < p.limits.life → BringsWithin p.keys change → MayPerform p.next change p.store
 MayPerform-within p None sound lives within = tt
-MayPerform-within p (Some (Place key payload)) sound lives within = IsAdmissible-placed p key payload sound within
+MayPerform-within p (Some (Place key payload)) sound lives within = IsInsertable-placed p key payload sound within
 MayPerform-within p (Some (Remove serial)) sound lives within = few_freed p sound lives
 MayPerform-within p (Some (Rewrite serial key payload)) sound lives within = (rw sound.ends within, record { cell = few_cells p sound; few = few_freed p sound lives })
 
@@ -108,7 +108,7 @@ IsPermutation-placed live now plain row faithful one =
     IsPermutation-trans now (row ∷ live) (plain ++ row ∷ []) (IsPermutation-sym (row ∷ live) now one) (IsPermutation-trans (row ∷ live) (row ∷ plain) (plain ++ row ∷ []) front back)
 
 -- a command whose key is the partition's may be performed, however its store was prepared
-pub MayPerform-prepared : (policy : Policy) (p : Part) (command : Command) (u : State) → IsSound p → p.folded + p.since < p.limits.life → IsWithin p.keys command → Prepares policy p.keys (range_of command) p.store u → MayPerform p.next (change_of command) u
+pub MayPerform-prepared : (policy : Policy) (p : Part) (command : Command) (u : State) → IsSound p → p.checkpointed + p.since < p.limits.life → IsWithin p.keys command → Prepares policy p.keys (range_of command) p.store u → MayPerform p.next (change_of command) u
 MayPerform-prepared policy p command u sound lives within prepared =
     MayPerform-within (record p { store = u }) (change_of command) (IsSound-prepared policy p (range_of command) u sound prepared) lives within
 
@@ -117,12 +117,12 @@ pub IsFaithful-kept : (s t : State) (next : ℕ) (plain : PlainState) → Keeps 
 IsFaithful-kept s t next plain keeps faithful = record { rows = rw keeps.live faithful.rows; serial = faithful.serial }
 
 -- a row that is placed is one more of the plain rows
-pub IsFaithful-placed : (s t : State) (next : ℕ) (key : Key) (payload : Payload) (plain : PlainState) → IsIntact s [] → SameButRoom (admitted (inserted_row next key payload) s) t → IsFaithful s next plain → IsFaithful t (next + 1) (changed plain (Some (Place key payload)))
-IsFaithful-placed s t next key payload plain intact admits faithful =
+pub IsFaithful-placed : (s t : State) (next : ℕ) (key : Key) (payload : Payload) (plain : PlainState) → IsIntact s [] → SameButRoom (row_inserted (inserted_row next key payload) s) t → IsFaithful s next plain → IsFaithful t (next + 1) (changed plain (Some (Place key payload)))
+IsFaithful-placed s t next key payload plain intact inserts faithful =
     let row = inserted_row next key payload in
-    let keeps = Keeps-room (admitted row s) t admits in
+    let keeps = Keeps-room (row_inserted row s) t inserts in
     let renamed = ap (λ (n : ℕ). inserted_row n key payload) faithful.serial in
-    let rows = IsPermutation-placed (live_rows s) (live_rows (admitted row s)) plain.rows row faithful.rows (live_rows-admitted row s intact) in
+    let rows = IsPermutation-placed (live_rows s) (live_rows (row_inserted row s)) plain.rows row faithful.rows (live_rows-row_inserted row s intact) in
     record { rows = rw (keeps.live, ← renamed) rows; serial = omega (arith, faithful.serial) }
 
 Spends-same : (s t : State) → t ≡ s → Spends 1 1 s t
@@ -149,10 +149,10 @@ Spends-replaced s t row (Some pending) is intact within renewable rewrites =
 -- a command uses at most one cell, and frees at most one, now or later
 Spends-performed : (next : ℕ) (change : Option Change) (s t : State) → IsIntact s [] → MayPerform next change s → Performs next change s t → Spends 1 1 s t
 Spends-performed next None s t intact may same = Spends-same s t same
-Spends-performed next (Some (Place key payload)) s t intact may admits =
+Spends-performed next (Some (Place key payload)) s t intact may inserts =
     let row = inserted_row next key payload in
-    let keeps = Keeps-room (admitted row s) t admits in
-    record { keys = keeps.ends; cells = omega (arith, keeps.cells, cells-admitted row s); freed = omega (arith, keeps.freed, freed-admitted row s intact) }
+    let keeps = Keeps-room (row_inserted row s) t inserts in
+    record { keys = keeps.ends; cells = omega (arith, keeps.cells, cells-row_inserted row s); freed = omega (arith, keeps.freed, freed-row_inserted row s intact) }
 Spends-performed next (Some (Remove serial)) s t intact may removes = Spends-removed s t serial.0 (pending_by s serial.0) refl intact removes
 Spends-performed next (Some (Rewrite serial key payload)) s t intact may replaces =
     Spends-replaced s t (row_with serial key payload) (pending_by s serial.0) refl intact may.0 may.1 replaces
@@ -180,15 +180,15 @@ SpendsNone-replaced s t row (Some pending) is intact rewrites empty = absurd (ha
 
 SpendsNone-performed : (next : ℕ) (change : Option Change) (s t : State) → IsIntact s [] → Performs next change s t → SpendsNone s t
 SpendsNone-performed next None s t intact same empty = SpendsNone-same s t same empty
-SpendsNone-performed next (Some (Place key payload)) s t intact admits empty =
+SpendsNone-performed next (Some (Place key payload)) s t intact inserts empty =
     let row = inserted_row next key payload in
-    let keeps = Keeps-room (admitted row s) t admits in
-    omega (arith, keeps.freed, freed-admitted row s intact)
+    let keeps = Keeps-room (row_inserted row s) t inserts in
+    omega (arith, keeps.freed, freed-row_inserted row s intact)
 SpendsNone-performed next (Some (Remove serial)) s t intact removes empty = SpendsNone-removed s t serial.0 (pending_by s serial.0) refl intact removes empty
 SpendsNone-performed next (Some (Rewrite serial key payload)) s t intact replaces empty =
     SpendsNone-replaced s t (row_with serial key payload) (pending_by s serial.0) refl intact replaces empty
 
-pub Spends-served : (policy : Policy) (p : Part) (command : Command) (t : State) → IsSound p → p.folded + p.since < p.limits.life → IsWithin p.keys command → ServesCleared policy p.keys p.next command p.store t → Spends 1 1 p.store t × SpendsNone p.store t
+pub Spends-served : (policy : Policy) (p : Part) (command : Command) (t : State) → IsSound p → p.checkpointed + p.since < p.limits.life → IsWithin p.keys command → ServesCleared policy p.keys p.next command p.store t → Spends 1 1 p.store t × SpendsNone p.store t
 Spends-served policy p command t sound lives within served =
     let before = IsSound-prepared policy p (range_of command) served.ready sound served.prepared in
     let keeps = Keeps-prepared policy p.keys (range_of command) p.store served.ready served.prepared in
@@ -203,7 +203,7 @@ pub AreLimits-of_history : (limit : ℕ) → IsLimit limit → AreLimits (of_his
 AreLimits-of_history limit limited = record { history = limited; cells = (omega arith, omega arith); life = (omega arith, omega arith) }
 
 -- the start
-pub IsSound-opened : (keys : Range) (limits : Limits) (store : State) → store ≡ no_cells keys store.column_room store.in_room → AreLimits limits → IsIntact store [] → IsSound (record { keys = keys; limits = limits; next = 0; folded = 0; since = 0; store = store })
+pub IsSound-opened : (keys : Range) (limits : Limits) (store : State) → store ≡ no_cells keys store.column_room store.in_room → AreLimits limits → IsIntact store [] → IsSound (record { keys = keys; limits = limits; next = 0; checkpointed = 0; since = 0; store = store })
 IsSound-opened keys limits store is limited intact = record {
   limited = limited;
   numbered = subst (λ (rows : List Row). IsNumbered (record { rows = by_serial rows; next = 0 })) (sym (ap live_rows is)) IsNumbered-no_rows;
@@ -218,8 +218,8 @@ IsSound-opened keys limits store is limited intact = record {
 }
 
 -- one more command
-pub IsSound-served : (p : Part) (command : Command) (next folded since : ℕ) (t : State) → IsSound p → folded + since ≡ p.folded + p.since + 1 → since ≤ p.limits.history → p.folded + p.since < p.limits.life → length t.cells ≤ p.limits.cells → IsIntact t [] → IsFaithful t next (after (state_of p) command) → Spends 1 1 p.store t × SpendsNone p.store t → IsSound (record p { next = next; folded = folded; since = since; store = t })
-IsSound-served p command next folded since t sound one few life fits intact faithful spent =
+pub IsSound-served : (p : Part) (command : Command) (next checkpointed since : ℕ) (t : State) → IsSound p → checkpointed + since ≡ p.checkpointed + p.since + 1 → since ≤ p.limits.history → p.checkpointed + p.since < p.limits.life → length t.cells ≤ p.limits.cells → IsIntact t [] → IsFaithful t next (after (state_of p) command) → Spends 1 1 p.store t × SpendsNone p.store t → IsSound (record p { next = next; checkpointed = checkpointed; since = since; store = t })
+IsSound-served p command next checkpointed since t sound one few life fits intact faithful spent =
     let plain = after (state_of p) command in
     let numbered = IsNumbered-after (state_of p) command sound.numbered in
     record {
@@ -239,8 +239,8 @@ IsSound-served p command next folded since t sound one few life fits intact fait
     }
 
 -- a partition after a checkpoint
-pub IsSound-folded : (p : Part) → IsSound p → IsSound (folded_part p)
-IsSound-folded p sound = record {
+pub IsSound-checkpointed : (p : Part) → IsSound p → IsSound (checkpointed_part p)
+IsSound-checkpointed p sound = record {
   limited = sound.limited;
   numbered = sound.numbered;
   ends = sound.ends;
@@ -254,7 +254,7 @@ IsSound-folded p sound = record {
 }
 
 -- the counts that it had before a command that left its cells as they were
-pub IsSound-recounted : (p q : Part) → IsSound p → IsSound q → q.keys ≡ p.keys → q.limits ≡ p.limits → Keeps p.store q.store → q.next ≡ p.next → IsSound (record q { folded = p.folded; since = p.since })
+pub IsSound-recounted : (p q : Part) → IsSound p → IsSound q → q.keys ≡ p.keys → q.limits ≡ p.limits → Keeps p.store q.store → q.next ≡ p.next → IsSound (record q { checkpointed = p.checkpointed; since = p.since })
 IsSound-recounted p q before sound keys limits keeps next = record {
   limited = sound.limited;
   numbered = sound.numbered;

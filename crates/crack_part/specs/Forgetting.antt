@@ -9,7 +9,7 @@ use Rattle.crack_row.specs.declared.command.Command.{Command}
 use Rattle.crack_row.specs.declared.command.Policy.{Policy}
 use Rattle.crack_row.specs.declared.command.Policy.TheVariants.{Complete, Auto}
 use Rattle.crack_index.specs.declared.mark.Mark.{Mark}
-use Rattle.crack_index.specs.Passes.{Progress, pass_above, are_few, met, left_behind, stopped_at}
+use Rattle.crack_index.specs.Passes.{PassProgress, pass_above, are_few, met, left_behind, stopped_at}
 use Rattle.crack_index.specs.Sums.{joined_below}
 use Rattle.crack_state.specs.State.{State, greatest}
 use Rattle.crack_state.specs.Steps.{SameButRoom}
@@ -44,23 +44,23 @@ due_by policy passes s = None
 
 -- the marks that a pass leaves in a column of `len` rows: it forgets each bound that it meets if the two pieces
 -- beside it, without the bounds forgotten before, have few rows together
-abbrev pub left_by_pass : ℕ → Progress → List Mark → List Mark
+abbrev pub left_by_pass : ℕ → PassProgress → List Mark → List Mark
 left_by_pass len p [] = []
 left_by_pass len p (m ∷ ms) = cond (nat_le m.bound.0 p.after) (m ∷ left_by_pass len p ms) (cond (p.bounds == 0) (m ∷ ms) (cond (are_few len (met m p) ms) (left_by_pass len (met m p) ms) (m ∷ left_by_pass len (left_behind m (met m p)) ms)))
 
 -- the state in which a pass ends that goes over these marks, in a column of `len` rows
-abbrev pub ended_pass : ℕ → Progress → List Mark → Progress
+abbrev pub ended_pass : ℕ → PassProgress → List Mark → PassProgress
 ended_pass len p [] = p
 ended_pass len p (m ∷ ms) = cond (nat_le m.bound.0 p.after) (ended_pass len p ms) (cond (p.bounds == 0) p (cond (are_few len (met m p) ms) (ended_pass len (met m p) ms) (ended_pass len (left_behind m (met m p)) ms)))
 
 -- the known sums after a pass: at each bound that it forgets, the lowest first, the two pieces are joined
-abbrev pub joined_by : ℕ → Progress → List Mark → List (ℕ × ℤ) → List (ℕ × ℤ)
+abbrev pub joined_by : ℕ → PassProgress → List Mark → List (ℕ × ℤ) → List (ℕ × ℤ)
 joined_by len p [] es = es
 joined_by len p (m ∷ ms) es = cond (nat_le m.bound.0 p.after) (joined_by len p ms es) (cond (p.bounds == 0) es (cond (are_few len (met m p) ms) (joined_by len (met m p) ms (joined_below m.bound.0 es)) (joined_by len (left_behind m (met m p)) ms es)))
 
 -- a pass over the bounds above a key, which meets at most 512 bounds, and finds those whose two pieces have at most
 -- 1,024 rows together
-abbrev pub pass_of : Key → State → Progress
+abbrev pub pass_of : Key → State → PassProgress
 pass_of key s = pass_above key.0 FEW_ROWS MOST_BOUNDS s.marks
 
 -- a store after a pass over the bounds above a key, if there was one: only its marks change

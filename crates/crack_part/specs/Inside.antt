@@ -13,7 +13,7 @@ use Rattle.crack_row.specs.declared.command.Policy.TheVariants.{Complete}
 use Rattle.crack_row.specs.declared.refusal.Refusal.{Refusal}
 use Rattle.crack_row.specs.declared.refusal.Refusal.TheVariants.{OutOfMemory, NoCell}
 use Rattle.crack_state.specs.State.{State}
-use Rattle.crack_state.specs.Steps.{IsAdmissible}
+use Rattle.crack_state.specs.Steps.{IsInsertable}
 use Rattle.crack_state.specs.Points.{MayFree, IsRenewable}
 use Rattle.crack_part.specs.Parts.{Part, table_of, StopsAt, CracksAndMerges}
 use Rattle.crack_part.specs.Cells.{lacks_cell, is_without_cell, is_cleared_first}
@@ -40,7 +40,7 @@ AreCommon (Some range) keys common = IsCommon range keys common
 -- what must hold of a store before a change is made to it; an inserted row gets the serial `next`
 abbrev pub MayPerform : ℕ → Option Change → State → Type 0
 MayPerform next None s = Unit {0}
-MayPerform next (Some (Place key payload)) s = IsAdmissible (inserted_row next key payload) s
+MayPerform next (Some (Place key payload)) s = IsInsertable (inserted_row next key payload) s
 MayPerform next (Some (Remove serial)) s = MayFree s
 MayPerform next (Some (Rewrite serial key payload)) s = IsIn s.keys key.0 × IsRenewable s
 

@@ -16,7 +16,7 @@ use Rattle.crack_plain.specs.Plain.{PlainState, PlainView, IsNumbered, by_serial
 use Rattle.crack_plain.specs.Watching.{capped_sum}
 use Rattle.crack_plain.specs.declared.statistics.Statistics.{Statistics}
 use Rattle.crack_state.specs.State.{State, IsIntact, live_rows, freed_of}
-use Rattle.crack_state.specs.Steps.{admitted, SameButRoom}
+use Rattle.crack_state.specs.Steps.{row_inserted, SameButRoom}
 use Rattle.crack_state.specs.Points.{pending_by, Removes, Rewrites}
 use Rattle.crack_state.specs.Merge.{Coarsens, Refines, Merges, Tallies}
 use Rattle.crack_store.specs.Further.{CracksFurther}
@@ -30,7 +30,7 @@ pub record Part : Type 0 where
   pub keys : Range
   pub limits : Limits
   pub next : ℕ
-  pub folded : ℕ
+  pub checkpointed : ℕ
   pub since : ℕ
   pub store : State
 
@@ -40,7 +40,7 @@ state_of part = record { rows = by_serial (live_rows part.store); next = part.ne
 
 -- the plain table of a partition: its plain rows, and its two counts of commands
 abbrev pub table_of : Part → PlainView
-table_of part = record { state = state_of part; folded = part.folded; since = part.since }
+table_of part = record { state = state_of part; checkpointed = part.checkpointed; since = part.since }
 
 -- the numbers of a partition, for monitoring: a column has one more piece than bounds
 abbrev pub statistics_of : Part → Statistics
@@ -82,8 +82,8 @@ pub record IsSound (part : Part) : Type 0 where
 
 -- a partition after a checkpoint: the count of commands since the last one is added to the count before it and set
 -- to 0, and nothing else changes
-abbrev pub folded_part : Part → Part
-folded_part part = record part { folded = accepted_of (table_of part); since = 0 }
+abbrev pub checkpointed_part : Part → Part
+checkpointed_part part = record part { checkpointed = accepted_of (table_of part); since = 0 }
 
 -- whether all pending rows are merged before a range is read: under auto, if 64 times the pending insertions are at
 -- least the column's rows times its pieces, which always holds if the column is empty
@@ -174,7 +174,7 @@ SparesCleared policy keys (Some range) s t = StopsRead policy s t (clipped range
 -- what is done to a store after the reply to a command: its change, if any, is made
 abbrev pub Performs : ℕ → Option Change → State → State → Type 0
 Performs next None s t = t ≡ s
-Performs next (Some (Place key payload)) s t = SameButRoom (admitted (row_with (record { 0 = next }) key payload) s) t
+Performs next (Some (Place key payload)) s t = SameButRoom (row_inserted (row_with (record { 0 = next }) key payload) s) t
 Performs next (Some (Remove serial)) s t = Removes (pending_by s serial.0) serial.0 s t
 Performs next (Some (Rewrite serial key payload)) s t = Rewrites (pending_by s serial.0) (row_with serial key payload) s t
 

@@ -7,7 +7,7 @@ ghost use Rattle.crack_row.specs.Rows.{is_other, replaced};
 ghost use Rattle.crack_plain.specs.Plain.{PlainState, IsNumbered, row_in, after, IsSmall};
 ghost use Rattle.crack_plain.specs.Inside.{gone, rewritten};
 ghost use Rattle.crack_state.specs.State.{IsIntact, live_rows};
-ghost use Rattle.crack_state.specs.Steps.{SameButRoom, admitted, IsAdmissible};
+ghost use Rattle.crack_state.specs.Steps.{SameButRoom, row_inserted, IsInsertable};
 ghost use Rattle.crack_state.specs.Points.{pending_by, MayFree, IsRenewable, Removes, Rewrites};
 ghost use Rattle.crack_part.specs.KnownSums.{KnowsSums};
 ghost use Rattle.crack_part.specs.Parts.{IsFaithful};
@@ -21,17 +21,17 @@ use crack_store::Store;
 /// Inserts a row with the serial `next`, raises `next` by one, and returns the reply. O(1), amortised. Refused with
 /// `OutOfMemory` if no memory is found; then nothing has changed.
 #[inline(always)]
-pub(crate) fn place(
+pub(crate) fn insert(
     store: &mut Store,
     next: &mut u64,
     key: Key,
     payload: Payload,
 ) -> Result<Reply, Refusal>
     requires intact { IsIntact store.old [] }
-    requires admissible { IsAdmissible (inserted_row next.old key payload) store.old }
+    requires insertable { IsInsertable (inserted_row next.old key payload) store.old }
     requires small { next.old + 1 < 2 ^ 64 }
     ensures reply { IfOk result (λ reply. reply ≡ Reply.Placed (record { 0 = next.old })) }
-    ensures placed { OnOk result (SameButRoom (admitted (inserted_row next.old key payload) store.old) store.new) }
+    ensures placed { OnOk result (SameButRoom (row_inserted (inserted_row next.old key payload) store.old) store.new) }
     ensures faithful { OnOk result ((plain : PlainState) → IsFaithful store.old next.old plain →
         IsFaithful store.new next.new (after plain (Command.Insert key payload))) }
     ensures intact { OnOk result (IsIntact store.new []) }
@@ -43,9 +43,9 @@ pub(crate) fn place(
         key,
         payload,
     };
-    store.admit(row)?;
+    store.insert(row)?;
     *next += 1;
-    store.facts();
+    store.recall_invariant();
     Ok(Reply::Placed(row.serial))
 }
 
@@ -73,9 +73,9 @@ pub(crate) fn remove(
     ensures same { OnErr result (SameButRoom store.old store.new × (known.new ≡ known.old)) }
     ensures err { IfErr result (λ e. e ≡ Refusal.OutOfMemory) }
 {
-    store.facts();
+    store.recall_invariant();
     let row = store.remove(serial)?;
-    store.facts();
+    store.recall_invariant();
     known.remove(serial, row, next);
     Ok(gone(row))
 }
@@ -105,9 +105,9 @@ pub(crate) fn rewrite(
     ensures same { OnErr result (SameButRoom store.old store.new × (known.new ≡ known.old)) }
     ensures err { IfErr result (λ e. e ≡ Refusal.OutOfMemory) }
 {
-    store.facts();
+    store.recall_invariant();
     let before = store.replace(row)?;
-    store.facts();
+    store.recall_invariant();
     known.replace(before, row, next);
     Ok(rewritten(before))
 }

@@ -9,7 +9,7 @@ ghost use Rattle.crack_part.specs.Parts.{IsFaithful};
 ghost use Rattle.crack_part.specs.KnownSums.{KnowsSums, IsFresh, SettlesToo, SaysSettled, HasMost};
 ghost use Rattle.crack_part.specs.KnownSums.{left_known, sum_before, with_row};
 
-use crack_index::{PieceSums, Source};
+use crack_index::{PieceSums, SumSource};
 use crack_row::{Command, InnerBound, KeyRange, Row, Serial};
 use crack_store::Store;
 use std::alloc::Global;
@@ -143,7 +143,7 @@ fn take_in(pieces: &mut PieceSums, store: &Store, from: u64, next: u64)
     ensures keys { keys_of pieces.new ≡ keys_of pieces.old }
     ensures same { next ≤ from → pieces.new ≡ pieces.old }
 {
-    store.facts();
+    store.recall_invariant();
     'serials: for serial in from..next {
         add(pieces, store.row_of(Serial(serial)));
     }
@@ -176,7 +176,7 @@ impl Settled<'_> {
         ensures part { self.now.range.low ≤ range.low → range.high ≤ self.now.range.high →
             IsCracked self.now.store.now range → IsTrue result }
     {
-        self.store.facts();
+        self.store.recall_invariant();
         let (low, high) = (range.low(), range.high());
         if !self.store.is_cracked(range) {
             return false;
@@ -209,7 +209,7 @@ impl Settled<'_> {
     }
 }
 
-impl Source for Settled<'_> {
+impl SumSource for Settled<'_> {
     ghost use Rattle.crack_part.specs.KnownSums.{SaysSettled};
 
     ghost says = { λ s low high sum. SaysSettled s.store.now s.range low high sum };

@@ -11,7 +11,7 @@ ghost use Rattle.crack_state.specs.Steps.{SameButRoom};
 ghost use Rattle.crack_state.specs.Merge.{IsSettled};
 ghost use Rattle.crack_state.specs.Points.{row_by};
 ghost use Rattle.crack_store.specs.Inside.{no_cells, IsLayoutOf};
-ghost use Rattle.crack_part.specs.Parts.{state_of, table_of, folded_part, IsLimit, IsSound, IsFaithful};
+ghost use Rattle.crack_part.specs.Parts.{state_of, table_of, checkpointed_part, IsLimit, IsSound, IsFaithful};
 ghost use Rattle.crack_part.specs.Parts.{CracksAndMerges, StopsAt};
 ghost use Rattle.crack_part.specs.Parts.{Serves, ServesCleared, Spares, SparesCleared, Prepares, Performs};
 ghost use Rattle.crack_part.specs.Forgetting.{PreparesBy, SparesBy, ServesBy, StopsBy};
@@ -22,7 +22,7 @@ ghost use Rattle.crack_part.specs.Upkeep.{is_automatic, is_full, is_due, answere
 ghost use Rattle.crack_part.specs.Inside.{AreCommon, MayPerform, early_refusal_of, Frees, FreesNone};
 ghost use Rattle.crack_part.specs.Outcomes.{Applies};
 
-use crate::changes::{place, remove, rewrite};
+use crate::changes::{insert, remove, rewrite};
 use crate::known::KnownSums;
 use crate::passes::Passes;
 use crate::reads::{count, select, sum};
@@ -43,7 +43,7 @@ pub struct Partition {
     pub(crate) keys: KeyRange,
     pub(crate) limits: Limits,
     pub(crate) next: u64,
-    pub(crate) folded: u64,
+    pub(crate) checkpointed: u64,
     pub(crate) since: u64,
     pub(crate) store: Store,
     passes: Passes,
@@ -58,7 +58,7 @@ impl Drop for Partition {
             keys: _,
             limits: _,
             next: _,
-            folded: _,
+            checkpointed: _,
             since: _,
             store,
             passes: _,
@@ -79,7 +79,7 @@ impl Model for Partition {
       keys = p.keys;
       limits = p.limits;
       next = p.next;
-      folded = p.folded;
+      checkpointed = p.checkpointed;
       since = p.since;
       store = p.store;
     } };
@@ -88,7 +88,7 @@ impl Model for Partition {
       keys = p.keys;
       limits = p.limits;
       next = p.next;
-      folded = p.folded;
+      checkpointed = p.checkpointed;
       since = p.since;
       store = p.store;
     } in KnowsPart p.known part };
@@ -99,7 +99,7 @@ impl Partition {
     /// checkpoints. Takes no memory. Refused with `BadLimit` if the limit isn't 1 to `GREATEST_LIMIT`.
     pub fn open(alloc: Global, keys: KeyRange, limit: u64) -> Result<Partition, Refusal>
         ensures ok { IfOk result (λ p. (p.keys ≡ keys) × (p.limits ≡ of_history limit)) }
-        ensures new { IfOk result (λ p. (p.next ≡ 0) × (p.folded ≡ 0) × (p.since ≡ 0)) }
+        ensures new { IfOk result (λ p. (p.next ≡ 0) × (p.checkpointed ≡ 0) × (p.since ≡ 0)) }
         ensures empty { IfOk result (λ p. p.store ≡ no_cells keys p.store.column_room p.store.in_room) }
         ensures opens { IsLimit limit → IsOk result }
         ensures bad_limit { (IsLimit limit → ⊥) → result ≡ Err Refusal.BadLimit }
@@ -114,7 +114,7 @@ impl Partition {
     /// `BadLimit` if a limit isn't 1 to the greatest of its kind.
     pub fn open_with(alloc: Global, keys: KeyRange, limits: Limits) -> Result<Partition, Refusal>
         ensures ok { IfOk result (λ p. (p.keys ≡ keys) × (p.limits ≡ limits)) }
-        ensures new { IfOk result (λ p. (p.next ≡ 0) × (p.folded ≡ 0) × (p.since ≡ 0)) }
+        ensures new { IfOk result (λ p. (p.next ≡ 0) × (p.checkpointed ≡ 0) × (p.since ≡ 0)) }
         ensures empty { IfOk result (λ p. p.store ≡ no_cells keys p.store.column_room p.store.in_room) }
         ensures opens { AreLimits limits → IsOk result }
         ensures bad_limit { (AreLimits limits → ⊥) → result ≡ Err Refusal.BadLimit }
@@ -123,13 +123,13 @@ impl Partition {
             return Err(Refusal::BadLimit);
         }
         let store = Store::new(alloc, keys);
-        store.facts();
+        store.recall_invariant();
         Ok(Partition {
             alloc,
             keys,
             limits,
             next: 0,
-            folded: 0,
+            checkpointed: 0,
             since: 0,
             store,
             passes: Passes::new(),
@@ -138,7 +138,7 @@ impl Partition {
     }
 
     /// States the invariant of every partition, and does nothing.
-    pub fn facts(&self)
+    pub fn recall_invariant(&self)
         ensures { IsSound self.now }
     {
         let _ = &self.store;
@@ -158,11 +158,11 @@ impl Partition {
     /// pending lists' unused memory. O(1) if these lists have no holes, else O(pending rows).
     pub fn checkpoint(&mut self) -> u64
         ensures since { result ≡ self.old.since }
-        ensures folded { self.new ≡ folded_part self.old }
+        ensures checkpointed { self.new ≡ checkpointed_part self.old }
     {
         let since = self.since;
         self.store.shrink_pending();
-        self.folded += since;
+        self.checkpointed += since;
         self.since = 0;
         since
     }
@@ -271,13 +271,13 @@ impl Partition {
         ensures refused { IfSome (refusal_of self.old command) (λ e. (result ≡ Err e) × (self.new ≡ self.old)) }
         ensures memory { refusal_of self.old command ≡ None → IfErr result (λ e. e ≡ Refusal.OutOfMemory) }
     {
-        let (folded, since) = (self.folded, self.since);
+        let (checkpointed, since) = (self.checkpointed, self.since);
         let reply = self.apply(command, policy)?;
         match copied(reply, self.alloc) {
             Ok(copies) => Ok(copies),
             Err(refusal) => {
                 // Only the copy of a list can find no memory, and a command whose reply is a list changes no row.
-                self.folded = folded;
+                self.checkpointed = checkpointed;
                 self.since = since;
                 Err(refusal)
             }
@@ -313,7 +313,7 @@ impl Partition {
             &command,
             policy,
         )?;
-        count_command(&mut self.folded, &mut self.since, self.limits);
+        count_command(&mut self.checkpointed, &mut self.since, self.limits);
         Ok(reply)
     }
 
@@ -501,7 +501,7 @@ fn answer(
 ) -> Result<Reply, Refusal>
     requires ends { store.old.keys ≡ keys }
     requires intact { IsIntact store.old [] }
-    requires admissible { (ready : State) → Prepares policy keys (range_of command.now) store.old ready →
+    requires insertable { (ready : State) → Prepares policy keys (range_of command.now) store.old ready →
         MayPerform next.old (change_of command.now) ready }
     requires small { next.old + 1 < 2 ^ 64 }
     ensures replies { IfOk result (λ reply. (plain : PlainState) → IsNumbered plain → IsFaithful store.old next.old
@@ -576,7 +576,7 @@ fn carry_out(
     requires common { AreCommon (range_of command.now) store.old.keys common }
     requires settled { IfSome common (λ r. IsSettled store.old r) }
     requires intact { IsIntact store.old [] }
-    requires admissible { MayPerform next.old (change_of command.now) store.old }
+    requires insertable { MayPerform next.old (change_of command.now) store.old }
     requires small { next.old + 1 < 2 ^ 64 }
     ensures reply { IfOk result (λ reply. (plain : PlainState) → IsNumbered plain → IsFaithful store.old next.old plain
         → KnowsSums known.old plain → reply ≡ reply_to plain command.now) }
@@ -594,7 +594,7 @@ fn carry_out(
     ensures err { IfErr result (λ e. e ≡ Refusal.OutOfMemory) }
 {
     match *command {
-        Command::Insert { key, payload } => place(store, next, key, payload),
+        Command::Insert { key, payload } => insert(store, next, key, payload),
         Command::Delete { serial } => remove(store, known, *next, serial),
         Command::Update {
             serial,
@@ -621,13 +621,14 @@ fn carry_out(
 
 /// Counts one more command since the last checkpoint. If a checkpoint is due, it is made first.
 #[inline(always)]
-fn count_command(folded: &mut u64, since: &mut u64, limits: Limits)
-    requires { folded.old + since.old + 1 < 2 ^ 64 }
-    ensures folded { folded.new ≡ (if is_due limits since.old then folded.old + since.old else folded.old) }
+fn count_command(checkpointed: &mut u64, since: &mut u64, limits: Limits)
+    requires { checkpointed.old + since.old + 1 < 2 ^ 64 }
+    ensures checkpointed { checkpointed.new ≡ (if is_due limits since.old then checkpointed.old + since.old else
+        checkpointed.old) }
     ensures since { since.new ≡ (if is_due limits since.old then 0 else since.old) + 1 }
 {
     if *since >= limits.history && is_automatic(limits.upkeep) {
-        *folded += *since;
+        *checkpointed += *since;
         *since = 0;
     }
     *since += 1;

@@ -31,7 +31,7 @@ pub(crate) fn count(store: &Store, common: Option<KeyRange>) -> u64
     ensures { (range : Range) → IsCommon range store.now.keys common → (plain : List Row) →
         IsPermutation (live_rows store.now) plain → result ≡ count_by (in_range range) plain }
 {
-    store.facts();
+    store.recall_invariant();
     match common {
         Some(range) => store.count_between(range),
         None => 0,
@@ -49,7 +49,7 @@ pub(crate) fn sum(store: &Store, known: &mut KnownSums, next: u64, common: Optio
         KnowsSums known.new plain }
     ensures small { (neg_ℤ (pos (2 ^ 96)) <ℤ result) × (result <ℤ pos (2 ^ 96)) }
 {
-    store.facts();
+    store.recall_invariant();
     let Some(range) = common else {
         return 0;
     };
@@ -79,7 +79,7 @@ pub(crate) fn select(
         IsNumbered plain → IsPermutation (live_rows store.now) plain.rows → rows.items ≡ rows_in range plain.rows) }
     ensures err { IfErr result (λ e. e ≡ Refusal.OutOfMemory) }
 {
-    store.facts();
+    store.recall_invariant();
     match common {
         Some(range) => rows_of(store, range),
         None => Ok(Vec::new(alloc)),

@@ -3,7 +3,7 @@ ghost use Rattle.std.specs.Prelude.{◌≡◌, ◌+◌, ◌<◌, ◌≤◌, ◌^
 ghost use Rattle.crack_row.specs.Ranges.{IsIn};
 ghost use Rattle.crack_plain.specs.Plain.{accepted_of};
 ghost use Rattle.crack_part.specs.Parts.{IsSound, table_of};
-ghost use Rattle.crack_part.specs.Runs.{InsertsAt, InsertsRun};
+ghost use Rattle.crack_part.specs.Runs.{InsertsInto, InsertsRun};
 
 use crate::partition::Partition;
 use crack_row::{Key, KeyNumber, KeyRange, PayloadNumber, Refusal, Serial};
@@ -23,7 +23,7 @@ impl Partition {
         ensures few { IfOk result (λ count. count ≤ length keys.now) }
         ensures last { IfOk result (λ count. self.old.next + count < 2 ^ 64) }
         ensures inserts { IfOk result (λ count. InsertsRun keys.now payloads.now self.old count self.new) }
-        ensures refused { IfErr result (λ e. InsertsAt keys.now payloads.now 0 (Err e) self.old self.new) }
+        ensures refused { IfErr result (λ e. InsertsInto keys.now payloads.now 0 (Err e) self.old self.new) }
     {
         let left = self.inserts_left();
         let count = keys_within(self.keys, keys, left);
@@ -32,8 +32,8 @@ impl Partition {
         }
         let taken = self
             .store
-            .admit_run(Serial(self.next), &keys[..count], &payloads[..count]);
-        self.store.facts();
+            .insert_run(Serial(self.next), &keys[..count], &payloads[..count]);
+        self.store.recall_invariant();
         if taken == 0 {
             return Err(Refusal::OutOfMemory);
         }

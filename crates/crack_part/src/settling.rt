@@ -101,7 +101,7 @@ pub(crate) fn crack_and_merge(
     if let Err(refusal) = crack(store, range, policy) {
         return Err(refusal);
     }
-    store.facts();
+    store.recall_invariant();
     if store.pending_in() == 0 && store.pending_out() == 0 {
         return Ok(());
     }

@@ -30,14 +30,14 @@ impl Partition {
         ensures value { result ≡ accepted_of (table_of self.now) }
         ensures lived { result ≤ self.now.limits.life }
     {
-        self.folded + self.since
+        self.checkpointed + self.since
     }
 
     /// The number of commands accepted up to the last checkpoint.
-    pub fn folded(&self) -> u64
-        ensures { result ≡ self.now.folded }
+    pub fn checkpointed(&self) -> u64
+        ensures { result ≡ self.now.checkpointed }
     {
-        self.folded
+        self.checkpointed
     }
 
     /// The number of commands accepted since the last checkpoint.
@@ -59,7 +59,7 @@ impl Partition {
         ensures live { result ≡ length (live_rows self.now.store) }
         ensures plain { result ≡ length (state_of self.now).rows }
     {
-        self.store.facts();
+        self.store.recall_invariant();
         let column = self.store.column_len() as u64;
         let pending_in = self.store.pending_in() as u64;
         let pending_out = self.store.pending_out() as u64;

@@ -105,7 +105,7 @@ impl<Kind> PendingList<Kind> {
     }
 
     /// States the invariants of every list. Does nothing at run time.
-    pub fn facts(&self)
+    pub fn recall_invariant(&self)
         ensures once { (slot : ℕ) → times slot (slots self.now.handles) ≤ 1 }
         ensures covered { All (λ h. h.slot < self.now.covered) self.now.handles }
         ensures beside { length self.now.remembered ≡ length self.now.handles }

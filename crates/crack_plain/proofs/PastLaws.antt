@@ -10,7 +10,7 @@ use Rattle.crack_row.specs.declared.command.Entry.{Entry}
 use Rattle.crack_row.specs.declared.limit.Limits.{Limits}
 use Rattle.crack_plain.specs.Plain.{IsNumbered, reply_to, after, AreReplies}
 use Rattle.crack_plain.proofs.Words.{StandWithin, IsWithin}
-use Rattle.crack_plain.specs.Past.{IsBase, no_base, Past, no_past, with_entry, state_after, accepted_in, inserted_in, deleted_in, base_after, folded, IsLegal}
+use Rattle.crack_plain.specs.Past.{IsBase, no_base, Past, no_past, with_entry, state_after, accepted_in, inserted_in, deleted_in, base_after, checkpointed_past, IsLegal}
 use Rattle.crack_plain.specs.Totals.{is_placed, is_gone, inserted, deleted}
 use Rattle.crack_plain.proofs.Laws.{replay_from-push, AreReplies-push, BringWithin-push, IsNumbered-no_rows, IsNumbered-replay_from, next-replay_from, length_rows-replay_from}
 use Rattle.crack_plain.proofs.TotalLaws.{inserted-cons, deleted-cons, inserted-le-accepted}
@@ -80,8 +80,8 @@ IsBase-after past base replies = record {
   few = omega (arith, base.few, changes-le-accepted past.tail);
 }
 
-pub IsLegal-folded : (keys : Range) (limits : Limits) (past : Past) → IsLegal keys limits past → StandWithin keys (state_after past).rows → IsLegal keys limits (folded past)
-IsLegal-folded keys limits past legal stand = record {
+pub IsLegal-checkpointed : (keys : Range) (limits : Limits) (past : Past) → IsLegal keys limits past → StandWithin keys (state_after past).rows → IsLegal keys limits (checkpointed_past past)
+IsLegal-checkpointed keys limits past legal stand = record {
   base = IsBase-after past legal.base legal.replies;
   stand = stand;
   replies = tt;

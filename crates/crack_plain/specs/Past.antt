@@ -13,7 +13,7 @@ use Rattle.crack_plain.specs.Totals.{inserted, deleted}
 -- rows they inserted and deleted
 pub record Base : Type 0 where
   pub state : PlainState
-  pub folded : ℕ
+  pub checkpointed : ℕ
   pub placed : ℕ
   pub gone : ℕ
 
@@ -23,11 +23,11 @@ pub record IsBase (base : Base) : Type 0 where
   pub numbered : IsNumbered base.state
   pub serial : base.state.next ≡ base.placed
   pub held : length base.state.rows + base.gone ≡ base.placed
-  pub few : base.placed + base.gone ≤ base.folded
+  pub few : base.placed + base.gone ≤ base.checkpointed
 
 -- the base of a partition that has made no checkpoint
 abbrev pub no_base : Base
-no_base = record { state = no_rows; folded = 0; placed = 0; gone = 0 }
+no_base = record { state = no_rows; checkpointed = 0; placed = 0; gone = 0 }
 
 -- the base, and the history: the entries since the base, in order
 pub record Past : Type 0 where
@@ -48,7 +48,7 @@ state_after past = fold (λ (s : PlainState) (e : Entry). after s e.command) pas
 
 -- how many commands were accepted since the opening
 abbrev pub accepted_in : Past → ℕ
-accepted_in past = past.base.folded + length past.tail
+accepted_in past = past.base.checkpointed + length past.tail
 
 -- how many rows were inserted since the opening
 abbrev pub inserted_in : Past → ℕ
@@ -60,11 +60,11 @@ deleted_in past = past.base.gone + deleted past.tail
 
 -- the base that a checkpoint makes of a past: the plain state after the past, and the past's totals
 abbrev pub base_after : Past → Base
-base_after past = record { state = state_after past; folded = accepted_in past; placed = inserted_in past; gone = deleted_in past }
+base_after past = record { state = state_after past; checkpointed = accepted_in past; placed = inserted_in past; gone = deleted_in past }
 
 -- the past after a checkpoint: its history is merged into its base, and is then empty
-abbrev pub folded : Past → Past
-folded past = record { base = base_after past; tail = [] }
+abbrev pub checkpointed_past : Past → Past
+checkpointed_past past = record { base = base_after past; tail = [] }
 
 -- a possible past of a partition with these keys and limits: each key in the base and in a command is one of these
 -- keys, the replies are right, and the limits bound the history and the accepted commands

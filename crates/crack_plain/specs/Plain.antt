@@ -100,16 +100,16 @@ AreReplies s (e ∷ es) = (e.reply ≡ reply_to s e.command) × AreReplies (afte
 -- a plain table: its state, how many commands it accepted before its last checkpoint, and how many since
 pub record PlainView : Type 0 where
   pub state : PlainState
-  pub folded : ℕ
+  pub checkpointed : ℕ
   pub since : ℕ
 
 -- how many commands the table accepted
 abbrev pub accepted_of : PlainView → ℕ
-accepted_of table = table.folded + table.since
+accepted_of table = table.checkpointed + table.since
 
 -- the table after a checkpoint
-abbrev pub checkpointed : PlainView → PlainView
-checkpointed table = record { state = table.state; folded = accepted_of table; since = 0 }
+abbrev pub checkpointed_table : PlainView → PlainView
+checkpointed_table table = record { state = table.state; checkpointed = accepted_of table; since = 0 }
 
 -- all keys
 abbrev pub all_keys : Range

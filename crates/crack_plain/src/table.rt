@@ -2,8 +2,9 @@
 ghost use Rattle.std.specs.Prelude.{◌≡◌, ◌+◌, ◌<◌, ◌≤◌, ◌^◌, false, length, Err, IfOk, IfErr, IsOk, OnErr, OnOk};
 ghost use Rattle.crack_row.specs.Layouts.{IsLayout};
 ghost use Rattle.crack_row.specs.Replies.{IsFlat};
-ghost use Rattle.crack_plain.specs.Plain.{PlainState, accepted_of, checkpointed, no_rows, answer, reply_to, changed};
-ghost use Rattle.crack_plain.specs.Plain.{places_row, all_keys, whole_layout, IsNumbered, IsSmall, TakesNoMemory};
+ghost use Rattle.crack_plain.specs.Plain.{PlainState, accepted_of, checkpointed_table, no_rows, answer, reply_to};
+ghost use Rattle.crack_plain.specs.Plain.{changed, places_row, all_keys, whole_layout, IsNumbered, IsSmall};
+ghost use Rattle.crack_plain.specs.Plain.{TakesNoMemory};
 ghost use Rattle.crack_plain.specs.Watching.{plain_statistics};
 
 use crate::MOST_ACCEPTED;
@@ -22,7 +23,7 @@ use std::marker::Model;
 pub struct PlainTable {
     rows: Vec<Row>,
     next: u64,
-    folded: u64,
+    checkpointed: u64,
     since: u64,
 }
 
@@ -35,25 +36,25 @@ impl Model for PlainTable {
 
     ghost view = { λ t. record {
       state = record { rows = t.rows.items; next = t.next };
-      folded = t.folded;
+      checkpointed = t.checkpointed;
       since = t.since;
     } };
 
     ghost invariant = { λ t. (let state : PlainState = record { rows = t.rows.items; next = t.next } in
-        IsNumbered state) × (length t.rows.items ≤ t.folded + t.since) × (t.next ≤ t.folded + t.since) ×
-        (t.folded + t.since ≤ MOST_ACCEPTED) };
+        IsNumbered state) × (length t.rows.items ≤ t.checkpointed + t.since) × (t.next ≤ t.checkpointed + t.since) ×
+        (t.checkpointed + t.since ≤ MOST_ACCEPTED) };
 }
 
 impl PlainTable {
     /// A table without rows. Takes no memory.
     pub fn new(alloc: Global) -> PlainTable
         ensures state { result.state ≡ no_rows }
-        ensures accepted { (result.folded ≡ 0) × (result.since ≡ 0) }
+        ensures accepted { (result.checkpointed ≡ 0) × (result.since ≡ 0) }
     {
         PlainTable {
             rows: Vec::new(alloc),
             next: 0,
-            folded: 0,
+            checkpointed: 0,
             since: 0,
         }
     }
@@ -72,16 +73,16 @@ impl PlainTable {
         ensures value { result ≡ accepted_of self.now }
         ensures bounded { accepted_of self.now ≤ 4294967295 }
     {
-        self.folded + self.since
+        self.checkpointed + self.since
     }
 
     /// Makes a checkpoint, and returns how many commands were accepted since the one before. O(1). No row changes.
     pub fn checkpoint(&mut self) -> u64
         ensures since { result ≡ self.old.since }
-        ensures folded { self.new ≡ checkpointed self.old }
+        ensures checkpointed { self.new ≡ checkpointed_table self.old }
     {
         let since = self.since;
-        self.folded += since;
+        self.checkpointed += since;
         self.since = 0;
         since
     }
@@ -134,7 +135,8 @@ impl PlainTable {
         ensures reply { IfOk result (λ reply. reply ≡ (answer self.old.state command.now).0) }
         ensures small { IfOk result IsSmall }
         ensures state { OnOk result (self.new.state ≡ (answer self.old.state command.now).1) }
-        ensures accepted { OnOk result ((self.new.folded ≡ self.old.folded) × (self.new.since ≡ self.old.since + 1)) }
+        ensures accepted { OnOk result ((self.new.checkpointed ≡ self.old.checkpointed) × (self.new.since ≡
+            self.old.since + 1)) }
         ensures err { OnErr result (self.new ≡ self.old) }
         ensures full { 4294967295 ≤ accepted_of self.old → result ≡ Err (Refusal.HistoryFull 4294967295) }
         ensures room { accepted_of self.old < 4294967295 → IfErr result (λ e. e ≡ Refusal.OutOfMemory) }

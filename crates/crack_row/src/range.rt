@@ -11,8 +11,8 @@ use std::marker::Model;
 /// most `GREATEST_BOUND`.
 #[derive(Clone, Copy, PartialEq, Eq, Debug)]
 pub struct KeyRange {
-    low: End,
-    high: End,
+    low: RangeEnd,
+    high: RangeEnd,
 }
 
 impl Model for KeyRange {
@@ -36,7 +36,7 @@ impl Default for KeyRange {
 
     /// The empty range at 0.
     fn default() -> KeyRange {
-        let least = End::of(Bound(0));
+        let least = RangeEnd::of(Bound(0));
         KeyRange {
             low: least,
             high: least,
@@ -141,8 +141,8 @@ impl KeyRange {
         ensures { result ≡ record { low = low.0; high = high.0 } }
     {
         KeyRange {
-            low: End::of(low),
-            high: End::of(high),
+            low: RangeEnd::of(low),
+            high: RangeEnd::of(high),
         }
     }
 }
@@ -150,12 +150,12 @@ impl KeyRange {
 /// An end of a range: its number and `false`, or 0 and `true` for the end above all keys. Its alignment is that of
 /// a 64-bit number, so values that contain ranges are smaller than with 128-bit ends.
 #[derive(Clone, Copy, Debug)]
-struct End {
+struct RangeEnd {
     number: KeyNumber,
     is_past: bool,
 }
 
-impl Model for End {
+impl Model for RangeEnd {
     ghost use Rattle.std.specs.Prelude.{ℕ, ◌≡◌, ◌<◌, cond};
     ghost use Rattle.crack_row.specs.Ends.{end_number, number_back, past_all, past_back};
     ghost use Rattle.crack_row.specs.declared.TheConstants.{GREATEST_BOUND};
@@ -172,33 +172,33 @@ impl Model for End {
         record { number = number_back e.is_past e.number is i; is_past = past_back e.is_past e.number is i } };
 }
 
-impl PartialEq for End {
+impl PartialEq for RangeEnd {
     ghost eq = { nat_eq };
 
     ghost laws = { Prim.search (comparing, rules) };
 
-    fn eq(&self, other: &End) -> bool {
+    fn eq(&self, other: &RangeEnd) -> bool {
         self.bound() == other.bound()
     }
 }
 
-impl Eq for End {
+impl Eq for RangeEnd {
     ghost laws = { Prim.search (comparing, rules) };
 }
 
-impl End {
+impl RangeEnd {
     /// The end at this bound.
     #[inline]
-    fn of(bound: Bound) -> End
+    fn of(bound: Bound) -> RangeEnd
         requires { bound.0 ≤ GREATEST_BOUND }
         ensures { result ≡ bound.0 }
     {
         match bound.least_key() {
-            Some(key) => End {
+            Some(key) => RangeEnd {
                 number: key.number(),
                 is_past: false,
             },
-            None => End {
+            None => RangeEnd {
                 number: 0,
                 is_past: true,
             },

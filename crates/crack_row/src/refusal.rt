@@ -49,7 +49,7 @@ pub enum Refusal {
     #[error("refused 14")]
     BadLimit,
     /// Workers of the table are missing from a gathering: `missing` has a bit for each missing number.
-    #[error("refused 15{}", Numbers(*missing))]
+    #[error("refused 15{}", BitNumbers(*missing))]
     WorkersMissing { missing: u64 },
     /// Receipts don't cover a partition's entries, a worker's number of replies differs from a partition's, or a
     /// partition or a worker isn't the table's. `position` is that of an entry or a receipt, that number of replies,
@@ -70,9 +70,9 @@ pub enum Refusal {
 
 /// Displays the numbers of the set bits in rising order, each after a space.
 #[derive(Clone, Copy)]
-struct Numbers(u64);
+struct BitNumbers(u64);
 
-impl fmt::Display for Numbers {
+impl fmt::Display for BitNumbers {
     fn fmt<W: fmt::Write>(&self, f: &mut fmt::Formatter<W>) -> fmt::Result {
         for number in 0..64u32 {
             if (self.0 >> number) & 1 == 1 {

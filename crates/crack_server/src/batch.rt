@@ -23,7 +23,7 @@ use std::thread::Threads;
 
 /// A desk that has served a worker's lines, the session's output, and its refusal if it was cut off.
 #[derive(Drop)]
-struct Served<D> {
+struct EndedSession<D> {
     desk: D,
     output: Vec<u8>,
     fault: Option<Refusal>,
@@ -31,7 +31,7 @@ struct Served<D> {
 
 /// The workers after their sessions, and the outputs of the sessions.
 #[derive(Drop)]
-struct Crew<J: Naming> {
+struct EndedBatch<J: Naming> {
     workers: Vec<Worker<J>>,
     outputs: Vec<Vec<u8>>,
 }
@@ -77,7 +77,7 @@ fn run_named<Rt: Threads + Wait + Sync, G: Gate + Sync, R: Read, W: Write, J: Na
 {
     let (table, workers) = table.named::<J>(alloc)?;
     match serve_input(rt, alloc, &table, workers, policy, gate, reader) {
-        Ok(crew) => report(alloc, table, crew, writer),
+        Ok(ended) => report(alloc, table, ended, writer),
         Err(refusal) => {
             drop(table);
             Err(refusal)
@@ -94,7 +94,7 @@ fn serve_input<Rt: Threads + Wait + Sync, G: Gate + Sync, R: Read, J: Naming + S
     policy: Policy,
     gate: &G,
     reader: &mut R,
-) -> Result<Crew<J>, Refusal>
+) -> Result<EndedBatch<J>, Refusal>
     requires { 0 < vec_len workers }
 {
     let input = read_input(alloc, reader)?;
@@ -102,7 +102,7 @@ fn serve_input<Rt: Threads + Wait + Sync, G: Gate + Sync, R: Read, J: Naming + S
     drop(input);
     let desks = desks_of(rt, alloc, table, gate, workers)?;
     let served = serve_all(rt, alloc, desks, shares, policy)?;
-    crew_of(alloc, served)
+    ended_batch_of(alloc, served)
 }
 
 /// Makes a desk for each worker, which executes the commands of its session. Refused with `OutOfMemory` if no memory
@@ -129,7 +129,7 @@ fn serve_all<Rt: Threads + Wait, D: Desk + Send + Drop>(
     desks: Vec<D>,
     shares: Vec<Vec<u8>>,
     policy: Policy,
-) -> Result<Vec<Served<D>>, Refusal> {
+) -> Result<Vec<EndedSession<D>>, Refusal> {
     let mut threads = Vec::with_capacity(alloc, desks.len())?;
     let mut served = Vec::with_capacity(alloc, desks.len())?;
     let all = thread::scope(thread::scope_env(), rt, move |scope| {
@@ -150,7 +150,12 @@ fn serve_all<Rt: Threads + Wait, D: Desk + Send + Drop>(
 
 /// Serves a worker's lines at its desk. The output is in memory, so a write fails only if no memory is found, and
 /// then the fault is `OutOfMemory`.
-fn serve_share<D: Desk + Drop>(alloc: Global, desk: D, share: Vec<u8>, policy: Policy) -> Served<D>
+fn serve_share<D: Desk + Drop>(
+    alloc: Global,
+    desk: D,
+    share: Vec<u8>,
+    policy: Policy,
+) -> EndedSession<D>
     // If the session wasn't cut off, its output is the texts of the answers to all statements of its share, made of
     // exactly the calls that the statements require, under the policy then in force; the calls led the desk to its
     // present state. The calls of a `WorkerDesk` are its worker's, and each reply is in the history of its
@@ -168,7 +173,7 @@ fn serve_share<D: Desk + Drop>(alloc: Global, desk: D, share: Vec<u8>, policy: P
             other => other,
         }),
     };
-    Served {
+    EndedSession {
         desk,
         output: writer.into_inner(),
         fault,
@@ -177,11 +182,11 @@ fn serve_share<D: Desk + Drop>(alloc: Global, desk: D, share: Vec<u8>, policy: P
 
 /// The workers and their outputs. Refused as the first session, by worker number, that was cut off, and with
 /// `OutOfMemory` if no memory is found.
-fn crew_of<Rt: Wait, G: Gate, J: Naming>(
+fn ended_batch_of<Rt: Wait, G: Gate, J: Naming>(
     alloc: Global,
-    served: Vec<Served<WorkerDesk<'_, Rt, G, J>>>,
-) -> Result<Crew<J>, Refusal> {
-    let mut crew = Crew {
+    served: Vec<EndedSession<WorkerDesk<'_, Rt, G, J>>>,
+) -> Result<EndedBatch<J>, Refusal> {
+    let mut ended = EndedBatch {
         workers: Vec::new(alloc),
         outputs: Vec::new(alloc),
     };
@@ -189,10 +194,10 @@ fn crew_of<Rt: Wait, G: Gate, J: Naming>(
         if let Some(refusal) = one.fault {
             return Err(refusal);
         }
-        crew.workers.push(one.desk.into_worker())?;
-        crew.outputs.push(one.output)?;
+        ended.workers.push(one.desk.into_worker())?;
+        ended.outputs.push(one.output)?;
     }
-    Ok(crew)
+    Ok(ended)
 }
 
 /// Gathers the workers, and writes their outputs and the totals. Refused as `gather` is, and with `WriteFault` if the
@@ -200,10 +205,10 @@ fn crew_of<Rt: Wait, G: Gate, J: Naming>(
 fn report<W: Write, J: Naming>(
     alloc: Global,
     table: Table<J>,
-    crew: Crew<J>,
+    ended: EndedBatch<J>,
     writer: &mut W,
 ) -> Result<(), Refusal> {
-    let Crew { workers, outputs } = crew;
+    let EndedBatch { workers, outputs } = ended;
     let totals = totals_of(alloc, table, workers)?;
     write_outputs(&outputs, writer)?;
     totals.write(writer)

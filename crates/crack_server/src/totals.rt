@@ -14,7 +14,7 @@ use std::io::Write;
 
 /// The totals of a table and its workers: commands accepted, rows inserted, rows deleted, and rows held.
 #[derive(Clone, Copy, Drop)]
-pub(crate) struct Totals {
+pub(crate) struct TableTotals {
     accepted: u64,
     inserted: u64,
     deleted: u64,
@@ -26,7 +26,7 @@ pub(crate) fn totals_of<J: Naming>(
     alloc: Global,
     table: Table<J>,
     workers: Vec<Worker<J>>,
-) -> Result<Totals, Refusal>
+) -> Result<TableTotals, Refusal>
     // The totals are those of the histories of partitions that agree with all workers. With an audit the receipts of
     // all workers also cover these histories, and the totals are those of the receipts.
     ensures gathered { IfOk result (λ totals. (parts : List WitnessedState) ×
@@ -66,7 +66,7 @@ fn gathered<J: Naming>(
 }
 
 /// The totals of gathered workers.
-fn totals_in<J: Naming>(gathered: &Gathered<J>) -> Totals
+fn totals_in<J: Naming>(gathered: &Gathered<J>) -> TableTotals
     ensures { result ≡ record {
       accepted = gathered.now.accepted;
       inserted = gathered.now.inserted;
@@ -74,7 +74,7 @@ fn totals_in<J: Naming>(gathered: &Gathered<J>) -> Totals
       held = gathered.now.held;
     } }
 {
-    Totals {
+    TableTotals {
         accepted: gathered.accepted,
         inserted: gathered.inserted,
         deleted: gathered.deleted,
@@ -82,11 +82,11 @@ fn totals_in<J: Naming>(gathered: &Gathered<J>) -> Totals
     }
 }
 
-impl Totals {
+impl TableTotals {
     /// Writes the totals as the last line of a run, and flushes the output. Refused with `WriteFault` if the writer
     /// fails.
     pub(crate) fn write<W: Write>(&self, writer: &mut W) -> Result<(), Refusal> {
-        let Totals {
+        let TableTotals {
             accepted,
             inserted,
             deleted,

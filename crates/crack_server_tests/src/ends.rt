@@ -1,6 +1,6 @@
 //! Servers whose input ends.
 use crate::tables::{of_workers, serve};
-use crack_loop::{Ending, Terms};
+use crack_loop::{ServerEnding, Terms};
 use crack_row::{Policy, Refusal};
 use crack_service::Alone;
 use crack_table::OpenGate;
@@ -37,7 +37,7 @@ fn output_at_end<H: Threads + Wait + Net + Sync, I: Read>(
 ) -> Result<Vec<u8>, Refusal> {
     let terms = Terms {
         policy: Policy::Ripple,
-        ending: Ending::AtEndOfInput,
+        ending: ServerEnding::AtEndOfInput,
         idle: Some(60),
         clients: 10,
         drain: 10,

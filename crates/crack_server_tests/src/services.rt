@@ -1,7 +1,7 @@
 //! Servers whose gate refuses at first, and whose host is notified.
 use crate::servers::{client, port_of};
 use crate::tables::{Opening, serve, terms_of};
-use crack_loop::{Ending, Terms};
+use crack_loop::{ServerEnding, Terms};
 use crack_row::{GREATEST_CELLS, GREATEST_LIFE, Limits, Policy, Refusal, Upkeep};
 use crack_service::{Alone, Host, Notice};
 use crack_table::Gate;
@@ -94,7 +94,7 @@ enum Way {
 fn terms(way: Way) -> Terms {
     Terms {
         policy: Policy::Gradual,
-        ending: Ending::AfterSessions(u64::from(!matches!(way, Way::Late))),
+        ending: ServerEnding::AfterSessions(u64::from(!matches!(way, Way::Late))),
         idle: Some(60),
         clients: 1,
         drain: 0,

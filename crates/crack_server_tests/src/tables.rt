@@ -3,7 +3,7 @@ ghost use Rattle.std.specs.Prelude.{◌≡◌, ℕ, Some, slice_get};
 ghost use Rattle.crack_witness.specs.Histories.{AreEmpty};
 ghost use Rattle.crack_witness.specs.Witnesses.{WorkerState, AreNames};
 
-use crack_loop::{Ending, Terms};
+use crack_loop::{ServerEnding, Terms};
 use crack_row::{Command, Key, Limits, Payload, Policy, Refusal};
 use crack_server::run_service;
 use crack_service::Host;
@@ -41,7 +41,7 @@ pub(crate) fn of_workers(workers: u64, is_audited: bool) -> Opening {
 pub(crate) fn terms_of(policy: Policy, sessions: u64) -> Terms {
     Terms {
         policy,
-        ending: Ending::AfterSessions(sessions),
+        ending: ServerEnding::AfterSessions(sessions),
         idle: None,
         clients: u64::MAX,
         drain: 0,
@@ -123,7 +123,7 @@ fn ask_early<J: Naming, H: Wait, G: Gate>(
     let Some(first) = workers.first_mut() else {
         return Err(Refusal::WorkersMissing { missing: 1 });
     };
-    let mut second = Worker::new(alloc, 1, first.front().again(), 1, true)?;
+    let mut second = Worker::new(alloc, 1, first.seen_events().copy(), 1, true)?;
     insert_row(rt, table, gate, first)?;
     insert_row(rt, table, gate, &mut second)
 }

@@ -7,9 +7,9 @@ use Rattle.std.proofs.lemmas.List.Elements.{filter_map-append}
 use Rattle.crack_row.specs.declared.Bound.{Bound}
 use Rattle.crack_row.specs.declared.command.Policy.{Policy}
 use Rattle.crack_commands.specs.Grammar.{Reading}
-use Rattle.crack_commands.specs.declared.statement.Ending.{Ending}
+use Rattle.crack_commands.specs.declared.statement.ClosingLine.{ClosingLine}
 use Rattle.crack_session.specs.declared.answer.Answer.{Answer}
-use Rattle.crack_session.specs.declared.session.Progress.{Progress}
+use Rattle.crack_session.specs.declared.session.SessionProgress.{SessionProgress}
 use Rattle.crack_session.specs.Answers.{is_short_answer}
 use Rattle.crack_session.specs.Calls.{Call, AreMadeOf}
 use Rattle.crack_session.specs.Feeding.{finished_lines, unfinished, fed, progress_after, all_noted, first_noted, ending_after, ended_by_any}
@@ -41,25 +41,25 @@ until_last-front (x ∷ xs) ys last = ⊎_elim
     (cases_Bool (is_last x))
 
 -- and all, if they end the session
-pub until_last-over : (xs ys : List Reading) (last : Ending) → until_last xs ≡ xs → ended_by_any None xs ≡ Some last → until_last (xs ++ ys) ≡ xs
-until_last-over [] ys last whole said = absurd (let both : ◌≡◌ {A = Option Ending} None (Some last) = said in cc)
+pub until_last-over : (xs ys : List Reading) (last : ClosingLine) → until_last xs ≡ xs → ended_by_any None xs ≡ Some last → until_last (xs ++ ys) ≡ xs
+until_last-over [] ys last whole said = absurd (let both : ◌≡◌ {A = Option ClosingLine} None (Some last) = said in cc)
 until_last-over (x ∷ xs) ys last whole said = ⊎_elim
     (λ (e : is_last x ≡ true).
     let none : xs ≡ [] = (let h : x ∷ [] ≡ x ∷ xs = rw e at whole in cc) in
     rw e (ap (λ z. x ∷ z) (sym none)))
     (λ (e : is_last x ≡ false).
     let more : until_last xs ≡ xs = (let h : x ∷ until_last xs ≡ x ∷ xs = rw e at whole in cc) in
-    let then : ended_by_any None xs ≡ Some last = subst (λ (q : Option Ending). ended_by_any q xs ≡ Some last) (not_last_noted None x e) said in
+    let then : ended_by_any None xs ≡ Some last = subst (λ (q : Option ClosingLine). ended_by_any q xs ≡ Some last) (not_last_noted None x e) said in
     rw e (ap (λ z. x ∷ z) (until_last-over xs ys last more then)))
     (cases_Bool (is_last x))
 
 -- whether one of them ends the session
-pub any_last : (xs : List Reading) (last : Ending) → ended_by_any None xs ≡ Some last → list_any is_last xs ≡ true
-any_last [] last said = absurd (let both : ◌≡◌ {A = Option Ending} None (Some last) = said in cc)
+pub any_last : (xs : List Reading) (last : ClosingLine) → ended_by_any None xs ≡ Some last → list_any is_last xs ≡ true
+any_last [] last said = absurd (let both : ◌≡◌ {A = Option ClosingLine} None (Some last) = said in cc)
 any_last (x ∷ xs) last said = ⊎_elim
     (λ (e : is_last x ≡ true). rw e refl)
     (λ (e : is_last x ≡ false).
-    let then : ended_by_any None xs ≡ Some last = subst (λ (q : Option Ending). ended_by_any q xs ≡ Some last) (not_last_noted None x e) said in
+    let then : ended_by_any None xs ≡ Some last = subst (λ (q : Option ClosingLine). ended_by_any q xs ≡ Some last) (not_last_noted None x e) said in
     rw e (any_last xs last then))
     (cases_Bool (is_last x))
 
@@ -70,10 +70,10 @@ none_last (x ∷ xs) whole said = ⊎_elim
     let none : xs ≡ [] = (let h : x ∷ [] ≡ x ∷ xs = rw e at whole in cc) in
     let noted = last_noted None x e in
     let over : ended_by_any None (x ∷ xs) ≡ Some noted.0 = ap (ended_by_any (ending_after None x)) none ∙ noted.1 in
-    absurd (let both : ◌≡◌ {A = Option Ending} None (Some noted.0) = sym said ∙ over in cc))
+    absurd (let both : ◌≡◌ {A = Option ClosingLine} None (Some noted.0) = sym said ∙ over in cc))
     (λ (e : is_last x ≡ false).
     let more : until_last xs ≡ xs = (let h : x ∷ until_last xs ≡ x ∷ xs = rw e at whole in cc) in
-    let then : ended_by_any None xs ≡ None = subst (λ (q : Option Ending). ended_by_any q xs ≡ None) (not_last_noted None x e) said in
+    let then : ended_by_any None xs ≡ None = subst (λ (q : Option ClosingLine). ended_by_any q xs ≡ None) (not_last_noted None x e) said in
     rw e (none_last xs more then))
     (cases_Bool (is_last x))
 
@@ -108,14 +108,14 @@ pub few_fed : (begun bytes : List ℕ) → length (fed begun bytes) ≤ length b
 few_fed begun bytes = let read = few_read (finished_lines begun bytes) in let few = few_finished begun bytes in omega (arith, read, few)
 
 -- the counts of a session that hasn't as many statements as its numbers can count
-pub all_noted-count : (p : Progress) (answers : List Answer) → p.statements + length answers ≤ 2 ^ 64 - 1 → (all_noted p answers).statements ≡ p.statements + length answers
+pub all_noted-count : (p : SessionProgress) (answers : List Answer) → p.statements + length answers ≤ 2 ^ 64 - 1 → (all_noted p answers).statements ≡ p.statements + length answers
 all_noted-count p [] few = omega arith
 all_noted-count p (a ∷ answers) few =
     let next : (progress_after p a).statements ≡ p.statements + 1 = omega (arith, few) in
     let rest = all_noted-count (progress_after p a) answers (omega (arith, few, next)) in
     omega (arith, rest, next)
 
-short_stays : (p : Progress) (answers : List Answer) (k : ℕ) → p.first_short ≡ Some k → (all_noted p answers).first_short ≡ Some k
+short_stays : (p : SessionProgress) (answers : List Answer) (k : ℕ) → p.first_short ≡ Some k → (all_noted p answers).first_short ≡ Some k
 short_stays p [] k is = is
 short_stays p (a ∷ answers) k is = short_stays (progress_after p a) answers k (ap (λ (s : Option ℕ). first_noted s (min (p.statements + 1) (2 ^ 64 - 1)) a) is)
 
@@ -123,7 +123,7 @@ later_short : (m n : ℕ) (short : Option ℕ) → m ≡ n + 1 → option_map (�
 later_short m n None is = refl
 later_short m n (Some k) is = ap Some (omega (arith, is))
 
-pub all_noted-short : (p : Progress) (answers : List Answer) → p.first_short ≡ None → p.statements + length answers ≤ 2 ^ 64 - 1 → (all_noted p answers).first_short ≡ option_map (λ k. k + p.statements) (first_short answers)
+pub all_noted-short : (p : SessionProgress) (answers : List Answer) → p.first_short ≡ None → p.statements + length answers ≤ 2 ^ 64 - 1 → (all_noted p answers).first_short ≡ option_map (λ k. k + p.statements) (first_short answers)
 all_noted-short p [] is few = is
 all_noted-short p (a ∷ answers) is few =
     let n = min (p.statements + 1) (2 ^ 64 - 1) in

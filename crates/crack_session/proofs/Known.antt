@@ -7,7 +7,7 @@ use Rattle.crack_row.specs.declared.command.Policy.{Policy}
 use Rattle.crack_plain.specs.Plain.{PlainView}
 use Rattle.crack_core.specs.Steps.{Bounds}
 use Rattle.crack_session.specs.declared.answer.Answer.{Answer}
-use Rattle.crack_session.specs.declared.session.End.{End}
+use Rattle.crack_session.specs.declared.session.SessionEnd.{SessionEnd}
 use Rattle.crack_session.specs.Answers.{answer_text}
 use Rattle.crack_session.specs.Calls.{Call}
 use Rattle.crack_session.specs.Readings.{statements}
@@ -21,13 +21,13 @@ known_appended (Some x) None xs o h e = absurd h
 known_appended (Some x) (Some y) xs o h e = let same : x ≡ o = cc e in ap Some (h ∙ ap (λ z. z ++ xs) same)
 
 -- All statements of the reader's bytes are answered, and the texts of the answers follow what was written before.
-pub record IsTold {D : Type 0} (bounds : D → Bounds) (splits : D → List Bound) (tables : D → Option (List PlainView)) (leads : D → Call → D → Type 0) (policy : Policy) (old new : D) (bytes out : List ℕ) (written : Option (List ℕ)) (end : End) : Type 0 where
+pub record IsTold {D : Type 0} (bounds : D → Bounds) (splits : D → List Bound) (tables : D → Option (List PlainView)) (leads : D → Call → D → Type 0) (policy : Policy) (old new : D) (bytes out : List ℕ) (written : Option (List ℕ)) (end : SessionEnd) : Type 0 where
   pub answers : List Answer
   pub are : AreAllAnswered bounds splits tables leads policy old new (statements bytes) answers
   pub short_is : end.first_short ≡ first_short answers
   pub written_is : written ≡ Some (out ++ concat (map answer_text answers))
 
-pub told_if_known : {D : Type 0} (bounds : D → Bounds) (splits : D → List Bound) (tables : D → Option (List PlainView)) (leads : D → Call → D → Type 0) (policy : Policy) (old new : D) (known out written : Option (List ℕ)) (end : End) → IsServed bounds splits tables leads policy old new known out written end
+pub told_if_known : {D : Type 0} (bounds : D → Bounds) (splits : D → List Bound) (tables : D → Option (List PlainView)) (leads : D → Call → D → Type 0) (policy : Policy) (old new : D) (known out written : Option (List ℕ)) (end : SessionEnd) → IsServed bounds splits tables leads policy old new known out written end
     → (bytes before : List ℕ) → known ≡ Some bytes → out ≡ Some before → IsTold bounds splits tables leads policy old new bytes before written end
 told_if_known bounds splits tables leads policy old new known out written end s bytes before e f =
     record {
@@ -41,7 +41,7 @@ some_same : {xs ys : List PlainView} → ◌≡◌ {A = Option (List PlainView)}
 some_same e = cc e
 
 -- and if the rows are known, these are their answers
-pub answered_if_known : {D : Type 0} (bounds : D → Bounds) (splits : D → List Bound) (tables : D → Option (List PlainView)) (leads : D → Call → D → Type 0) (policy : Policy) (old new : D) (bytes out : List ℕ) (written : Option (List ℕ)) (end : End) (told : IsTold bounds splits tables leads policy old new bytes out written end)
+pub answered_if_known : {D : Type 0} (bounds : D → Bounds) (splits : D → List Bound) (tables : D → Option (List PlainView)) (leads : D → Call → D → Type 0) (policy : Policy) (old new : D) (bytes out : List ℕ) (written : Option (List ℕ)) (end : SessionEnd) (told : IsTold bounds splits tables leads policy old new bytes out written end)
     → (known left : List PlainView) → tables old ≡ Some known → tables new ≡ Some left → AreAnswers (bounds old) (splits old) known (statements bytes) told.answers left
 answered_if_known bounds splits tables leads policy old new bytes out written end told known left e f =
     let next = told.are.told known e in

@@ -10,13 +10,13 @@ use Rattle.crack_row.specs.declared.refusal.Refusal.{Refusal}
 use Rattle.crack_row.specs.declared.refusal.Refusal.TheVariants.{ReadFault}
 use Rattle.crack_plain.specs.Plain.{PlainView}
 use Rattle.crack_commands.specs.Grammar.{Reading}
-use Rattle.crack_commands.specs.declared.statement.Ending.{Ending}
+use Rattle.crack_commands.specs.declared.statement.ClosingLine.{ClosingLine}
 use Rattle.crack_core.specs.Steps.{Bounds}
 use Rattle.crack_session.specs.declared.TheConstants.{OUTPUT_BYTES}
 use Rattle.crack_session.specs.declared.answer.Answer.{Answer}
 use Rattle.crack_session.specs.declared.session.How.{How}
 use Rattle.crack_session.specs.declared.session.How.TheVariants.{Quit, InputEnded}
-use Rattle.crack_session.specs.declared.session.Progress.{Progress}
+use Rattle.crack_session.specs.declared.session.SessionProgress.{SessionProgress}
 use Rattle.crack_session.specs.Answers.{answer_text}
 use Rattle.crack_session.specs.Calls.{Call, AreAnswersOf}
 use Rattle.crack_session.specs.Feeding.{SessionState, IsLeftOf, Feeds, fed, unfinished, ended_by_any, all_noted}
@@ -64,13 +64,13 @@ module _ {D : Type 0} (bounds : D → Bounds) (splits : D → List Bound) (table
     pub counted : s.progress.statements ≡ length f.feeds.answered.answers
     counted =
         let sum = all_noted-count s0.progress f.feeds.answered.answers bounded in
-        let same = ap (λ (p : Progress). p.statements) f.feeds.answered.progress_is in
+        let same = ap (λ (p : SessionProgress). p.statements) f.feeds.answered.progress_is in
         let z = begins.statements_are in
         omega (arith, sum, same, z)
 
     pub short : s.progress.first_short ≡ first_short f.feeds.answered.answers
     short =
-        ap (λ (p : Progress). p.first_short) f.feeds.answered.progress_is
+        ap (λ (p : SessionProgress). p.first_short) f.feeds.answered.progress_is
         ∙ all_noted-short s0.progress f.feeds.answered.answers begins.short_is bounded
         ∙ ap (λ (z : ℕ). option_map (λ k. k + z) (first_short f.feeds.answered.answers)) begins.statements_are
         ∙ short_from_0 (first_short f.feeds.answered.answers)
@@ -96,10 +96,10 @@ module _ {D : Type 0} (bounds : D → Bounds) (splits : D → List Bound) (table
         ap (take (length f.feeds.answered.answers)) (statements_front all first later f.split ∙ more.1) ∙ take_at (fed [] first) more.0 (length f.feeds.answered.answers) (sym as_many)
 
     ending_of : s.ending ≡ ended_by_any None (fed [] first)
-    ending_of = f.feeds.answered.ending_is ∙ ap (λ (e : Option Ending). ended_by_any e (fed s0.begun first)) begins.ending ∙ ap (ended_by_any None) from_none
+    ending_of = f.feeds.answered.ending_is ∙ ap (λ (e : Option ClosingLine). ended_by_any e (fed s0.begun first)) begins.ending ∙ ap (ended_by_any None) from_none
 
     -- or all, if a line has ended the session, or the input
-    pub all_by_line : (last : Ending) → s.ending ≡ Some last → (statements all ≡ fed [] first) × (list_any is_last (statements all) ≡ true)
+    pub all_by_line : (last : ClosingLine) → s.ending ≡ Some last → (statements all ≡ fed [] first) × (list_any is_last (statements all) ≡ true)
     all_by_line last said =
         let over = sym ending_of ∙ said in
         let is = statements_front all first later f.split ∙ until_last-over (fed [] first) (fed (unfinished [] first) later) last whole over in

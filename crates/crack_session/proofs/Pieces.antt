@@ -9,11 +9,11 @@ use Rattle.std.specs.List.{concat, filter_map}
 use Rattle.crack_row.specs.declared.Bound.{Bound}
 use Rattle.crack_plain.specs.Plain.{PlainView}
 use Rattle.crack_commands.specs.Grammar.{Reading}
-use Rattle.crack_commands.specs.declared.statement.Ending.{Ending}
+use Rattle.crack_commands.specs.declared.statement.ClosingLine.{ClosingLine}
 use Rattle.crack_commands.specs.declared.statement.Statement.TheVariants.{Insert, Delete, Update, Count, Sum, Select, Layout, Checkpoint, Watch, WatchPart, Policy, Ping, End}
 use Rattle.crack_core.specs.Steps.{Bounds}
 use Rattle.crack_session.specs.declared.answer.Answer.{Answer}
-use Rattle.crack_session.specs.declared.session.Progress.{Progress}
+use Rattle.crack_session.specs.declared.session.SessionProgress.{SessionProgress}
 use Rattle.crack_session.specs.Answers.{IsAnswer, answer_text}
 use Rattle.crack_session.specs.Calls.{Call, IsReadingMadeOf, AreMadeOf, AreAnswersOf}
 use Rattle.crack_session.specs.Input.{has_feed}
@@ -76,16 +76,16 @@ one_fed begun line none few =
     ap (filter_map reading_of) lines ∙ meaning (cut_line (begun ++ line)) ∙ ap of_option (reading_kept (begun ++ line))
 
 -- counts and policies after some answers, and then others
-all_noted-append : (p : Progress) (us bs : List Answer) → all_noted p (us ++ bs) ≡ all_noted (all_noted p us) bs
+all_noted-append : (p : SessionProgress) (us bs : List Answer) → all_noted p (us ++ bs) ≡ all_noted (all_noted p us) bs
 all_noted-append p [] bs = refl
 all_noted-append p (a ∷ us) bs = all_noted-append (progress_after p a) us bs
 
-pub ended_by_any-append : (ending : Option Ending) (rs qs : List Reading) → ended_by_any ending (rs ++ qs) ≡ ended_by_any (ended_by_any ending rs) qs
+pub ended_by_any-append : (ending : Option ClosingLine) (rs qs : List Reading) → ended_by_any ending (rs ++ qs) ≡ ended_by_any (ended_by_any ending rs) qs
 ended_by_any-append ending [] qs = refl
 ended_by_any-append ending (r ∷ rs) qs = ended_by_any-append (ending_after ending r) rs qs
 
 -- a statement that ends the session is noted
-pub last_noted : (ending : Option Ending) (r : Reading) → is_last r ≡ true → (last : Ending) × (ending_after ending r ≡ Some last)
+pub last_noted : (ending : Option ClosingLine) (r : Reading) → is_last r ≡ true → (last : ClosingLine) × (ending_after ending r ≡ Some last)
 last_noted ending (Err e) h = absurd (false≢true h)
 last_noted ending (Ok (Insert k p)) h = absurd (false≢true h)
 last_noted ending (Ok (Delete r)) h = absurd (false≢true h)
@@ -101,7 +101,7 @@ last_noted ending (Ok (Policy p)) h = absurd (false≢true h)
 last_noted ending (Ok Ping) h = absurd (false≢true h)
 last_noted ending (Ok (End last)) h = (last, refl)
 
-pub not_last_noted : (ending : Option Ending) (r : Reading) → is_last r ≡ false → ending_after ending r ≡ ending
+pub not_last_noted : (ending : Option ClosingLine) (r : Reading) → is_last r ≡ false → ending_after ending r ≡ ending
 not_last_noted ending (Err e) h = refl
 not_last_noted ending (Ok (Insert k p)) h = refl
 not_last_noted ending (Ok (Delete r)) h = refl
@@ -118,7 +118,7 @@ not_last_noted ending (Ok Ping) h = refl
 not_last_noted ending (Ok (End last)) h = absurd (false≢true (sym h))
 
 -- nothing follows a statement that ends the session
-pub until_last-then : (ending : Option Ending) (rs qs : List Reading) → until_last rs ≡ rs → until_last qs ≡ qs → ((last : Ending) → ended_by_any ending rs ≡ Some last → qs ≡ []) → until_last (rs ++ qs) ≡ rs ++ qs
+pub until_last-then : (ending : Option ClosingLine) (rs qs : List Reading) → until_last rs ≡ rs → until_last qs ≡ qs → ((last : ClosingLine) → ended_by_any ending rs ≡ Some last → qs ≡ []) → until_last (rs ++ qs) ≡ rs ++ qs
 until_last-then ending [] qs first second over = second
 until_last-then ending (r ∷ rs) qs first second over = ⊎_elim
     (λ (e : is_last r ≡ true).
@@ -140,7 +140,7 @@ until_last-one (Some r) = by_test (is_last r)
     by_test false = refl
 
 -- answers and calls of some statements, and then of others
-AreMadeOf-then : (splits : List Bound) (p : Progress) (rs : List Reading) (us : List Answer) (cs : List Call) (qs : List Reading) (bs : List Answer) (ds : List Call) → AreMadeOf splits p.policy rs us cs → AreMadeOf splits (all_noted p us).policy qs bs ds → AreMadeOf splits p.policy (rs ++ qs) (us ++ bs) (cs ++ ds)
+AreMadeOf-then : (splits : List Bound) (p : SessionProgress) (rs : List Reading) (us : List Answer) (cs : List Call) (qs : List Reading) (bs : List Answer) (ds : List Call) → AreMadeOf splits p.policy rs us cs → AreMadeOf splits (all_noted p us).policy qs bs ds → AreMadeOf splits p.policy (rs ++ qs) (us ++ bs) (cs ++ ds)
 AreMadeOf-then splits p [] [] cs qs bs ds made more = subst (λ (c : List Call). AreMadeOf splits p.policy qs bs (c ++ ds)) (sym made) more
 AreMadeOf-then splits p [] (a ∷ us) cs qs bs ds made more = absurd made
 AreMadeOf-then splits p (r ∷ rs) [] cs qs bs ds made more = absurd made
@@ -178,7 +178,7 @@ module _ {D : Type 0} (bounds : D → Bounds) (splits : D → List Bound) (table
   -- some statements are answered, and then others
   pub AnswersAll-then : (s0 s1 s2 : SessionState) (rs qs : List Reading) (d0 d1 d2 : D) (o0 o1 o2 : List ℕ) → AnswersAll bounds splits tables leads s0 rs d0 d1 o0 o1 s1 → AnswersAll bounds splits tables leads s1 qs d1 d2 o1 o2 s2 → AnswersAll bounds splits tables leads s0 (rs ++ qs) d0 d2 o0 o2 s2
   AnswersAll-then s0 s1 s2 rs qs d0 d1 d2 o0 o1 o2 a b =
-      let policy : s1.progress.policy ≡ (all_noted s0.progress a.answers).policy = ap (λ (p : Progress). p.policy) a.progress_is in
+      let policy : s1.progress.policy ≡ (all_noted s0.progress a.answers).policy = ap (λ (p : SessionProgress). p.policy) a.progress_is in
       let more = subst (λ (sp : List Bound). AreMadeOf sp (all_noted s0.progress a.answers).policy qs b.answers b.made.0) a.splits_are (subst (λ p. AreMadeOf (splits d1) p qs b.answers b.made.0) policy b.made.2) in
       record {
         answers = a.answers ++ b.answers;
@@ -190,12 +190,12 @@ module _ {D : Type 0} (bounds : D → Bounds) (splits : D → List Bound) (table
             (second.0, AreAnswers-then (bounds d0) (splits d0) known rs a.answers first.0 qs b.answers second.0 first.1 here, second.2);
         bounds_are = b.bounds_are ∙ a.bounds_are;
         splits_are = b.splits_are ∙ a.splits_are;
-        progress_is = b.progress_is ∙ ap (λ (p : Progress). all_noted p b.answers) a.progress_is ∙ sym (all_noted-append s0.progress a.answers b.answers);
+        progress_is = b.progress_is ∙ ap (λ (p : SessionProgress). all_noted p b.answers) a.progress_is ∙ sym (all_noted-append s0.progress a.answers b.answers);
         added = a.added ++ b.added;
         out_is = b.out_is ∙ ap (λ o. o ++ b.added) a.out_is ∙ append_assoc o0 a.added b.added;
         texts_are = texts-then s0.unwritten a.added s1.unwritten b.added s2.unwritten a.answers b.answers a.texts_are b.texts_are;
         left_is = left-then s0.unwritten a.answers s1.unwritten b.answers s2.unwritten a.left_is b.left_is;
-        ending_is = b.ending_is ∙ ap (λ (e : Option Ending). ended_by_any e qs) a.ending_is ∙ sym (ended_by_any-append s0.ending rs qs);
+        ending_is = b.ending_is ∙ ap (λ (e : Option ClosingLine). ended_by_any e qs) a.ending_is ∙ sym (ended_by_any-append s0.ending rs qs);
       }
 
   -- bytes are fed, and then others: feeding bytes in pieces is feeding the whole
@@ -203,7 +203,7 @@ module _ {D : Type 0} (bounds : D → Bounds) (splits : D → List Bound) (table
   Feeds-then s0 s1 s2 xs ys d0 d1 d2 o0 o1 o2 a b =
       let same : fed s1.begun ys ≡ fed (unfinished s0.begun xs) ys = ap (λ k. fed k ys) a.begun_is in
       let both : fed s0.begun (xs ++ ys) ≡ fed s0.begun xs ++ fed s1.begun ys = fed-append s0.begun xs ys ∙ ap (λ q. fed s0.begun xs ++ q) (sym same) in
-      let nothing : (last : Ending) → s1.ending ≡ Some last → fed s1.begun ys ≡ [] = λ last e. ap (fed s1.begun) (b.none_after last e) in
+      let nothing : (last : ClosingLine) → s1.ending ≡ Some last → fed s1.begun ys ≡ [] = λ last e. ap (fed s1.begun) (b.none_after last e) in
       record {
         answered = subst (λ (rs : List Reading). AnswersAll bounds splits tables leads s0 rs d0 d2 o0 o2 s2) (sym both) (AnswersAll-then s0 s1 s2 (fed s0.begun xs) (fed s1.begun ys) d0 d1 d2 o0 o1 o2 a.answered b.answered);
         begun_is = b.begun_is ∙ ap (λ k. unfinished k ys) a.begun_is ∙ sym (unfinished-append s0.begun xs ys);
@@ -282,16 +282,16 @@ module _ {D : Type 0} (bounds : D → Bounds) (splits : D → List Bound) (table
   AnswersAll-from s r t rs d e o p a progress unwritten ending =
       record {
         answers = a.answers;
-        made = subst (λ (q : Progress). AreAnswersOf leads (splits d) q.policy d e rs a.answers) progress a.made;
+        made = subst (λ (q : SessionProgress). AreAnswersOf leads (splits d) q.policy d e rs a.answers) progress a.made;
         told = a.told;
         bounds_are = a.bounds_are;
         splits_are = a.splits_are;
-        progress_is = a.progress_is ∙ ap (λ (q : Progress). all_noted q a.answers) progress;
+        progress_is = a.progress_is ∙ ap (λ (q : SessionProgress). all_noted q a.answers) progress;
         added = a.added;
         out_is = a.out_is;
         texts_are = ap (λ u. u ++ concat (map answer_text a.answers)) (sym unwritten) ∙ a.texts_are;
         left_is = subst (λ (u : List ℕ). IsLeftOf u a.answers t.unwritten) unwritten a.left_is;
-        ending_is = a.ending_is ∙ ap (λ (q : Option Ending). ended_by_any q rs) ending;
+        ending_is = a.ending_is ∙ ap (λ (q : Option ClosingLine). ended_by_any q rs) ending;
       }
 
   -- a line is finished, and its meaning answered
@@ -302,7 +302,7 @@ module _ {D : Type 0} (bounds : D → Bounds) (splits : D → List Bound) (table
         answered = subst (λ (rs : List Reading). AnswersAll bounds splits tables leads s rs d e o p t) (said ∙ sym one) answered;
         begun_is = begins ∙ sym (ap (unfinished s.begun) is ∙ unfinished-append s.begun line (10 ∷ []));
         last = ap until_last one ∙ until_last-one (reading_of (s.begun ++ line)) ∙ sym one;
-        none_after = λ last over. absurd (let both : ◌≡◌ {A = Option Ending} None (Some last) = sym goes_on ∙ over in cc);
+        none_after = λ last over. absurd (let both : ◌≡◌ {A = Option ClosingLine} None (Some last) = sym goes_on ∙ over in cc);
       }
 
   -- no line is finished
@@ -325,11 +325,11 @@ module _ {D : Type 0} (bounds : D → Bounds) (splits : D → List Bound) (table
         };
         begun_is = ap (λ (s : SessionState). s.begun) same ∙ sym (all_unfinished s.begun xs none (take_all 202 s.begun few));
         last = rw nothing refl;
-        none_after = λ last over. absurd (let both : ◌≡◌ {A = Option Ending} None (Some last) = sym goes_on ∙ over in cc);
+        none_after = λ last over. absurd (let both : ◌≡◌ {A = Option ClosingLine} None (Some last) = sym goes_on ∙ over in cc);
       }
 
 -- a session's state with another unfinished line
-abbrev pub state_with : Progress → List ℕ → Option Ending → List ℕ → SessionState
+abbrev pub state_with : SessionProgress → List ℕ → Option ClosingLine → List ℕ → SessionState
 state_with progress unwritten ending begun = record { begun = begun; progress = progress; unwritten = unwritten; ending = ending }
 
 -- us many bytes are kept us there is room for

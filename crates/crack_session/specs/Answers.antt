@@ -11,7 +11,7 @@ use Rattle.crack_row.specs.declared.command.Reply.{Reply}
 use Rattle.crack_row.specs.declared.layout.Layout.{Layout as PartLayout}
 use Rattle.crack_row.specs.declared.refusal.Refusal.{Refusal}
 use Rattle.crack_row.specs.declared.refusal.Refusal.TheVariants.{OutOfMemory, BadStatement}
-use Rattle.crack_plain.specs.Plain.{PlainView, checkpointed}
+use Rattle.crack_plain.specs.Plain.{PlainView, checkpointed_table}
 use Rattle.crack_plain.specs.Watching.{AreNumbersOf, no_statistics, together}
 use Rattle.crack_plain.specs.declared.statistics.Statistics.{Statistics}
 use Rattle.crack_commands.specs.Grammar.{Reading}
@@ -20,10 +20,10 @@ use Rattle.crack_commands.specs.declared.watching.Traffic.{Traffic}
 use Rattle.crack_commands.specs.Texts.{line_text, reply_text, row_text, layout_text, policy_text, refusal_text}
 use Rattle.crack_commands.specs.declared.statement.Statement.{Statement}
 use Rattle.crack_commands.specs.declared.statement.Statement.TheVariants.{Insert, Delete, Update, Count, Sum, Select, Layout, Checkpoint, Watch, WatchPart, Policy, Ping, End}
-use Rattle.crack_commands.specs.declared.statement.Ending.{Ending}
-use Rattle.crack_commands.specs.declared.statement.Ending.TheVariants.{Quit, Http}
+use Rattle.crack_commands.specs.declared.statement.ClosingLine.{ClosingLine}
+use Rattle.crack_commands.specs.declared.statement.ClosingLine.TheVariants.{Quit, Http}
 use Rattle.crack_session.specs.declared.answer.Answer.{Answer}
-use Rattle.crack_session.specs.declared.answer.Answer.TheVariants.{Replied, Counted, Summed, Listed, Laid, Folded, Numbers, Set, Pong, Refused, Bye}
+use Rattle.crack_session.specs.declared.answer.Answer.TheVariants.{Replied, Counted, Summed, Listed, Laid, CheckpointMade, Numbers, Set, Pong, Refused, Bye}
 use Rattle.crack_core.specs.declared.turns.PartReply.{PartReply}
 use Rattle.crack_core.specs.Asking.{InTurn, asking}
 use Rattle.crack_core.specs.Listing.{rows_listed}
@@ -31,7 +31,7 @@ use Rattle.crack_core.specs.declared.asking.Query.{Query}
 use Rattle.crack_core.specs.declared.asking.Query.TheVariants.{CountRows, SumPayloads, SelectRows}
 use Rattle.crack_session.specs.Queries.{joint_answer}
 use Rattle.crack_core.specs.Routes.{keys_of_part, route, parts_of}
-use Rattle.crack_core.specs.Steps.{Bounds, IsOutcomeAt, IsLayoutOutcome, IsStatisticsOutcome, IsFoldOutcome, tables_after, changed_at}
+use Rattle.crack_core.specs.Steps.{Bounds, IsOutcomeAt, IsLayoutOutcome, IsStatisticsOutcome, IsCheckpointOutcome, tables_after, changed_at}
 
 -- the answer made of an outcome, or its refusal
 abbrev pub answer_from : {X : Type 0} → (X → Answer) → Result X Refusal → Answer
@@ -97,14 +97,14 @@ pub record AreWatched (tables : List PlainView) (answer : Answer) : Type 0 where
 
 -- A checkpoint of one partition is made: the answer has the number of commands accepted since the previous one, or
 -- is a refusal, and `new` are the partitions afterwards.
-pub record IsFolded (tables : List PlainView) (part : ℕ) (answer : Answer) (new : List PlainView) : Type 0 where
+pub record IsCheckpointAnswer (tables : List PlainView) (part : ℕ) (answer : Answer) (new : List PlainView) : Type 0 where
   pub outcome : Result ℕ Refusal
-  pub comes_out : IsFoldOutcome (slice_get tables part) outcome
-  pub answer_is : answer ≡ answer_from Folded outcome
-  pub new_is : new ≡ changed_at checkpointed tables part outcome
+  pub comes_out : IsCheckpointOutcome (slice_get tables part) outcome
+  pub answer_is : answer ≡ answer_from CheckpointMade outcome
+  pub new_is : new ≡ changed_at checkpointed_table tables part outcome
 
 -- the last answer of a session that a line ends: a line of an HTTP request is refused with `BadStatement`
-abbrev pub farewell : Ending → Answer
+abbrev pub farewell : ClosingLine → Answer
 farewell Quit = Bye
 farewell Http = Refused BadStatement
 
@@ -118,7 +118,7 @@ IsAnswerTo bounds splits tables (Count range) answer new = AsksParts bounds spli
 IsAnswerTo bounds splits tables (Sum range) answer new = AsksParts bounds splits tables SumPayloads (parts_of splits range) answer new
 IsAnswerTo bounds splits tables (Select range) answer new = AsksParts bounds splits tables SelectRows (parts_of splits range) answer new
 IsAnswerTo bounds splits tables (Layout part) answer new = IsLaidOut splits tables part answer × (new ≡ tables)
-IsAnswerTo bounds splits tables (Checkpoint part) answer new = IsFolded tables part answer new
+IsAnswerTo bounds splits tables (Checkpoint part) answer new = IsCheckpointAnswer tables part answer new
 IsAnswerTo bounds splits tables Watch answer new = AreWatched tables answer × (new ≡ tables)
 IsAnswerTo bounds splits tables (WatchPart part) answer new = IsWatched tables part answer × (new ≡ tables)
 IsAnswerTo bounds splits tables (Policy policy) answer new = (answer ≡ Set policy) × (new ≡ tables)
@@ -146,7 +146,7 @@ answer_text (Counted total) = line_text (codes "count ") (decimal total)
 answer_text (Summed total) = line_text (codes "sum ") (signed_decimal total)
 answer_text (Listed total lists) = line_text (codes "rows ") (decimal total) ++ flat_map (λ (r : PartReply). flat_map (row_text r.part) (rows_listed r.reply)) lists
 answer_text (Laid part layout) = layout_text part layout
-answer_text (Folded count) = line_text (codes "folded ") (decimal count)
+answer_text (CheckpointMade count) = line_text (codes "folded ") (decimal count)
 answer_text (Numbers statistics traffic) = numbers_text statistics traffic
 answer_text (Set policy) = policy_text policy
 answer_text Pong = codes "pong\n"

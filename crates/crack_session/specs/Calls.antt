@@ -18,7 +18,7 @@ use Rattle.crack_commands.specs.declared.statement.Statement.{Statement}
 use Rattle.crack_commands.specs.declared.statement.Statement.TheVariants.{Insert, Delete, Update, Count, Sum, Select, Layout, Checkpoint, Watch, WatchPart, Policy, Ping, End}
 use Rattle.crack_core.specs.Routes.{route, parts_of}
 use Rattle.crack_session.specs.declared.answer.Answer.{Answer}
-use Rattle.crack_session.specs.declared.answer.Answer.TheVariants.{Replied, Counted, Summed, Listed, Laid, Folded, Numbers, Set, Pong, Refused}
+use Rattle.crack_session.specs.declared.answer.Answer.TheVariants.{Replied, Counted, Summed, Listed, Laid, CheckpointMade, Numbers, Set, Pong, Refused}
 use Rattle.crack_core.specs.declared.turns.PartReply.{PartReply}
 use Rattle.crack_core.specs.Asking.{InTurn, rows_told, sum_told}
 use Rattle.crack_session.specs.Answers.{answer_from, added_up, farewell}
@@ -87,7 +87,7 @@ IsMadeOf splits policy (Count range) answer calls = ArePartsAsked policy (λ par
 IsMadeOf splits policy (Sum range) answer calls = ArePartsAsked policy (λ part. AskSum part) (λ replies. Summed (sum_told replies)) (parts_of splits range) answer calls
 IsMadeOf splits policy (Select range) answer calls = ArePartsAsked policy (λ part. AskSelect part) (λ replies. Listed (rows_told replies) replies) (parts_of splits range) answer calls
 IsMadeOf splits policy (Layout part) answer calls = (outcome : Result PartLayout Refusal) × (calls ≡ Looked part outcome ∷ []) × (answer ≡ answer_from (Laid part) outcome)
-IsMadeOf splits policy (Checkpoint part) answer calls = (outcome : Result ℕ Refusal) × (calls ≡ Checkpointed part outcome ∷ []) × (answer ≡ answer_from Folded outcome)
+IsMadeOf splits policy (Checkpoint part) answer calls = (outcome : Result ℕ Refusal) × (calls ≡ Checkpointed part outcome ∷ []) × (answer ≡ answer_from CheckpointMade outcome)
 IsMadeOf splits policy Watch answer calls = AreAllMeasured splits answer calls
 IsMadeOf splits policy (WatchPart part) answer calls = (outcome : Result Statistics Refusal) × (calls ≡ Measured part outcome ∷ []) × (answer ≡ answer_from (λ statistics. Numbers statistics None) outcome)
 IsMadeOf splits policy (Policy other) answer calls = (answer ≡ Set other) × (calls ≡ [])

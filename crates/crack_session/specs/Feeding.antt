@@ -5,15 +5,15 @@ use Rattle.crack_row.specs.declared.Bound.{Bound}
 use Rattle.crack_plain.specs.Plain.{PlainView}
 use Rattle.crack_commands.specs.Grammar.{Reading}
 use Rattle.crack_commands.specs.Texts.{row_text, piece_text}
-use Rattle.crack_commands.specs.declared.statement.Ending.{Ending}
-use Rattle.crack_commands.specs.declared.statement.Ending.TheVariants.{Quit, Http}
+use Rattle.crack_commands.specs.declared.statement.ClosingLine.{ClosingLine}
+use Rattle.crack_commands.specs.declared.statement.ClosingLine.TheVariants.{Quit, Http}
 use Rattle.crack_commands.specs.declared.statement.Statement.TheVariants.{End}
 use Rattle.crack_core.specs.Listing.{rows_listed}
 use Rattle.crack_core.specs.Steps.{Bounds}
 use Rattle.crack_session.specs.declared.TheConstants.{OUTPUT_BYTES}
 use Rattle.crack_session.specs.declared.answer.Answer.{Answer}
 use Rattle.crack_core.specs.declared.turns.PartReply.{PartReply}
-use Rattle.crack_session.specs.declared.session.Progress.{Progress}
+use Rattle.crack_session.specs.declared.session.SessionProgress.{SessionProgress}
 use Rattle.crack_session.specs.declared.feeding.Why.{Why}
 use Rattle.crack_session.specs.declared.feeding.Why.TheVariants.{Wants, Full, Quit as QuitSaid, Refused}
 use Rattle.crack_commands.specs.declared.text.TheConstants.{LONGEST_TEXT}
@@ -47,7 +47,7 @@ first_noted (Some k) n answer = Some k
 first_noted None n answer = if is_short_answer answer then Some n else None
 
 -- a session's counts and policy after an answer; the count of statements saturates at 2^64 - 1
-abbrev pub progress_after : Progress → Answer → Progress
+abbrev pub progress_after : SessionProgress → Answer → SessionProgress
 progress_after p answer = record {
   statements = min (p.statements + 1) (2 ^ 64 - 1);
   first_short = first_noted p.first_short (min (p.statements + 1) (2 ^ 64 - 1)) answer;
@@ -55,17 +55,17 @@ progress_after p answer = record {
 }
 
 -- a session's counts and policy after several answers
-abbrev pub all_noted : Progress → List Answer → Progress
+abbrev pub all_noted : SessionProgress → List Answer → SessionProgress
 all_noted p [] = p
 all_noted p (answer ∷ answers) = all_noted (progress_after p answer) answers
 
 -- how a session has ended after a statement, if it has
-abbrev pub ending_after : Option Ending → Reading → Option Ending
+abbrev pub ending_after : Option ClosingLine → Reading → Option ClosingLine
 ending_after ending (Ok (End last)) = Some last
 ending_after ending _ = ending
 
 -- how a session has ended after several statements, if it has
-abbrev pub ended_by_any : Option Ending → List Reading → Option Ending
+abbrev pub ended_by_any : Option ClosingLine → List Reading → Option ClosingLine
 ended_by_any ending [] = ending
 ended_by_any ending (reading ∷ readings) = ended_by_any (ending_after ending reading) readings
 
@@ -85,9 +85,9 @@ rest_text (Pieces layout at) = flat_map piece_text (drop at layout.pieces)
 -- text that isn't appended to the output yet; and how a line ended the session, if one did
 pub record SessionState : Type 0 where
   pub begun : List ℕ
-  pub progress : Progress
+  pub progress : SessionProgress
   pub unwritten : List ℕ
-  pub ending : Option Ending
+  pub ending : Option ClosingLine
 
 -- whether nothing is left of a text
 abbrev pub is_nothing : Rest → Bool
@@ -122,7 +122,7 @@ pub record Feeds {D : Type 0} (bounds : D → Bounds) (splits : D → List Bound
   pub answered : AnswersAll bounds splits tables leads old (fed old.begun bytes) desk desk' out out' new
   pub begun_is : new.begun ≡ unfinished old.begun bytes
   pub last : until_last (fed old.begun bytes) ≡ fed old.begun bytes
-  pub none_after : (ending : Ending) → old.ending ≡ Some ending → bytes ≡ []
+  pub none_after : (ending : ClosingLine) → old.ending ≡ Some ending → bytes ≡ []
 
 -- why a session stopped with this many bytes left: it wants more, since none is left and all texts are appended; the
 -- output has too little room for the next text; or a line has ended it, and all texts are appended

@@ -11,7 +11,7 @@ use Rattle.crack_commands.specs.Grammar.{Reading}
 use Rattle.crack_core.specs.Steps.{Bounds}
 use Rattle.crack_session.specs.declared.TheConstants.{OUTPUT_BYTES}
 use Rattle.crack_session.specs.declared.answer.Answer.{Answer}
-use Rattle.crack_session.specs.declared.session.End.{End}
+use Rattle.crack_session.specs.declared.session.SessionEnd.{SessionEnd}
 use Rattle.crack_session.specs.declared.session.Fault.{Fault}
 use Rattle.crack_session.specs.declared.session.How.TheVariants.{Quit, InputEnded}
 use Rattle.crack_session.specs.Answers.{answer_text}
@@ -28,7 +28,7 @@ pub record AreAllAnswered {D : Type 0} (bounds : D → Bounds) (splits : D → L
 
 -- A session ended: it answered all statements of the bytes that it read, which are the reader's if those are known,
 -- and wrote the texts of the answers.
-pub record IsServed {D : Type 0} (bounds : D → Bounds) (splits : D → List Bound) (tables : D → Option (List PlainView)) (leads : D → Call → D → Type 0) (policy : Policy) (old new : D) (known out written : Option (List ℕ)) (end : End) : Type 0 where
+pub record IsServed {D : Type 0} (bounds : D → Bounds) (splits : D → List Bound) (tables : D → Option (List PlainView)) (leads : D → Call → D → Type 0) (policy : Policy) (old new : D) (known out written : Option (List ℕ)) (end : SessionEnd) : Type 0 where
   pub bytes : List ℕ
   pub bytes_are : (all : List ℕ) → known ≡ Some all → bytes ≡ all
   pub answers : List Answer

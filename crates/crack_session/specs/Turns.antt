@@ -7,7 +7,7 @@ use Rattle.crack_row.specs.declared.refusal.Refusal.{Refusal}
 use Rattle.crack_row.specs.declared.refusal.Refusal.TheVariants.{ReadFault, WriteFault}
 use Rattle.crack_row.specs.declared.watched.Watched.{Watched}
 use Rattle.crack_plain.specs.Plain.{PlainView}
-use Rattle.crack_commands.specs.declared.statement.Ending.{Ending}
+use Rattle.crack_commands.specs.declared.statement.ClosingLine.{ClosingLine}
 use Rattle.crack_core.specs.Steps.{Bounds}
 use Rattle.crack_session.specs.declared.TheConstants.{OUTPUT_BYTES}
 use Rattle.crack_session.specs.declared.input.TheConstants.{READ_BYTES}
@@ -43,7 +43,7 @@ pub record Sends {D W X : Type 0} (bounds : D → Bounds) (splits : D → List B
 abbrev pub StopsAs : Option How → List ℕ → ℕ → SessionState → Type 0
 StopsAs None bytes left s = (left ≡ 0) × (s.unwritten ≡ []) × (s.ending ≡ None) × (0 < length bytes)
 StopsAs (Some InputEnded) bytes left s = (left ≡ 0) × (s.unwritten ≡ []) × (s.ending ≡ None) × (bytes ≡ [])
-StopsAs (Some Quit) bytes left s = (s.unwritten ≡ []) × (last : Ending) × (s.ending ≡ Some last)
+StopsAs (Some Quit) bytes left s = (s.unwritten ≡ []) × (last : ClosingLine) × (s.ending ≡ Some last)
 
 -- A reader was read once, and gave these bytes.
 pub record ReadsOnce {R : Type 0} (remaining : R → Option (List ℕ)) (old new : Watched R) (bytes : List ℕ) : Type 0 where

@@ -6,7 +6,7 @@ ghost use Rattle.crack_core.specs.Asking.{asking};
 ghost use Rattle.crack_core.specs.Routes.{route, parts_of};
 ghost use Rattle.crack_session.specs.Telling.{AsksSeveral, AsksDesk};
 ghost use Rattle.crack_session.specs.Answers.{IsAnswerTo, IsAsked, AsksParts, IsLaidOut};
-ghost use Rattle.crack_session.specs.Answers.{IsFolded, is_short_answer, answer_from, farewell};
+ghost use Rattle.crack_session.specs.Answers.{IsCheckpointAnswer, is_short_answer, answer_from, farewell};
 ghost use Rattle.crack_session.specs.Calls.{Checkpointed, Looked, IsOneAsked, AreSeveralAsked};
 ghost use Rattle.crack_session.specs.Calls.{ArePartsAsked, IsMadeOf};
 ghost use Rattle.crack_session.specs.Queries.{joint_answer};
@@ -14,7 +14,7 @@ ghost use Rattle.crack_session.specs.Queries.{joint_answer};
 use crate::desk::Desk;
 use crate::query::{ReplyList, joined};
 use crate::watching::{watch, watch_part};
-use crack_commands::{Ending, Statement, Traffic};
+use crack_commands::{ClosingLine, Statement, Traffic};
 use crack_core::{AskPart, PartReply, Query, ask_parts, only_part, parts_of, route};
 use crack_plain::Statistics;
 use crack_row::{Command, Key, KeyRange, Layout, Policy, Refusal, Reply};
@@ -43,7 +43,7 @@ pub enum Answer {
         layout: Layout,
     },
     /// A checkpoint was made: how many commands the partition had accepted since its previous one.
-    Folded(u64),
+    CheckpointMade(u64),
     /// The statistics of one partition, or those of the table with the traffic of its server, if there is a server.
     Numbers {
         statistics: Statistics,
@@ -109,7 +109,7 @@ pub fn answer_statement<D: Desk>(
         Statement::Sum(range) => return ask_range(alloc, desk, policy, Query::SumPayloads, range),
         Statement::Select(range) => return ask_range(alloc, desk, policy, Query::SelectRows, range),
         Statement::Layout(part) => return lay_out(desk, part),
-        Statement::Checkpoint(part) => return fold_part(desk, part),
+        Statement::Checkpoint(part) => return checkpoint_part(desk, part),
         Statement::Watch => return watch(desk),
         Statement::WatchPart(part) => return watch_part(desk, part),
         Statement::Policy(next) => return Answer::Set(next),
@@ -121,12 +121,12 @@ pub fn answer_statement<D: Desk>(
 
 /// The last answer of a session that a line ends.
 #[inline(always)]
-fn farewell(ending: Ending) -> Answer
+fn farewell(ending: ClosingLine) -> Answer
     ensures { result ≡ farewell ending }
 {
     match ending {
-        Ending::Quit => Answer::Bye,
-        Ending::Http => Answer::Refused(Refusal::BadStatement),
+        ClosingLine::Quit => Answer::Bye,
+        ClosingLine::Http => Answer::Refused(Refusal::BadStatement),
     }
 }
 
@@ -243,13 +243,13 @@ fn lay_out<D: Desk>(desk: &D, part: u32) -> Answer
 
 /// Makes a checkpoint of one partition, and answers with the number of commands that it had accepted since its
 /// previous one, or with the refusal of the desk.
-fn fold_part<D: Desk>(desk: &mut D, part: u32) -> Answer
-    ensures { AsksDesk D.bounds D.splits D.tables D.leads (λ bounds splits tables. IsFolded tables part result)
-        (λ splits calls. (outcome : Result ℕ Refusal) × (calls ≡ Checkpointed part outcome ∷ []) ×
-        (result ≡ answer_from Answer.Folded outcome)) desk.old desk.new }
+fn checkpoint_part<D: Desk>(desk: &mut D, part: u32) -> Answer
+    ensures { AsksDesk D.bounds D.splits D.tables D.leads (λ bounds splits tables. IsCheckpointAnswer tables
+        part result) (λ splits calls. (outcome : Result ℕ Refusal) × (calls ≡ Checkpointed part outcome ∷ []) ×
+        (result ≡ answer_from Answer.CheckpointMade outcome)) desk.old desk.new }
 {
     match desk.checkpoint(part) {
-        Ok(count) => Answer::Folded(count),
+        Ok(count) => Answer::CheckpointMade(count),
         Err(refusal) => Answer::Refused(refusal),
     }
 }

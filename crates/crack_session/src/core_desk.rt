@@ -1,9 +1,9 @@
 //! `Desk` for a core, which executes commands as worker 0.
 ghost use Rattle.std.specs.Prelude.{◌≡◌, ◌+◌, is_ok, IfOk, OnOk, slice_get, if◌then◌else◌};
-ghost use Rattle.crack_plain.specs.Plain.{IsSmall, checkpointed};
-ghost use Rattle.crack_core.specs.Steps.{bounds_from, IsOutcomeAt, IsFoldOutcome, tables_of, tables_after, changed_at};
-ghost use Rattle.crack_core.specs.Steps.{expected_fold, accepted_by};
-ghost use Rattle.crack_core.specs.Jobs.{IsFoldedAt};
+ghost use Rattle.crack_plain.specs.Plain.{IsSmall, checkpointed_table};
+ghost use Rattle.crack_core.specs.Steps.{bounds_from, IsOutcomeAt, IsCheckpointOutcome, tables_of, tables_after};
+ghost use Rattle.crack_core.specs.Steps.{changed_at, expected_checkpoint, accepted_by};
+ghost use Rattle.crack_core.specs.Jobs.{IsCheckpointedAt};
 ghost use Rattle.crack_session.specs.Calls.{Asked, Checkpointed};
 ghost use Rattle.crack_session.specs.Leads.{core_leads};
 
@@ -48,12 +48,13 @@ impl Desk for Core {
     }
 
     fn checkpoint(&mut self, part: u32) -> Result<u64, Refusal>
-        ensures outcome { IsFoldOutcome (slice_get (tables_of self.old.parts) part) result }
+        ensures outcome { IsCheckpointOutcome (slice_get (tables_of self.old.parts) part) result }
         // It takes no memory, so `NoSuchPartition` is the only refusal.
-        ensures expected { result ≡ expected_fold (slice_get (tables_of self.old.parts) part) }
-        ensures after { tables_of self.new.parts ≡ changed_at checkpointed (tables_of self.old.parts) part result }
+        ensures expected { result ≡ expected_checkpoint (slice_get (tables_of self.old.parts) part) }
+        ensures after { tables_of self.new.parts ≡ changed_at checkpointed_table (tables_of self.old.parts)
+            part result }
         // The named partition is checkpointed, and nothing else is changed.
-        ensures folds { OnOk result (IsFoldedAt part self.old.parts self.new.parts) }
+        ensures checkpoints { OnOk result (IsCheckpointedAt part self.old.parts self.new.parts) }
         ensures opened { (self.new.splits ≡ self.old.splits) × (self.new.limits ≡ self.old.limits) }
         ensures accepted { accepted_by self.new.parts ≡ accepted_by self.old.parts }
         ensures leads { core_leads self.old (Checkpointed part result) self.new }

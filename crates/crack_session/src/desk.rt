@@ -1,8 +1,8 @@
 //! Desks, which execute the commands of a session.
 ghost use Rattle.std.specs.Prelude.{◌≡◌, ℕ, ◌+◌, List, length, All, is_ok, Some, IfOk, slice_get, if◌then◌else◌};
-ghost use Rattle.crack_plain.specs.Plain.{PlainView, IsNumbered, IsSmall, checkpointed};
+ghost use Rattle.crack_plain.specs.Plain.{PlainView, IsNumbered, IsSmall, checkpointed_table};
 ghost use Rattle.crack_core.specs.Routes.{AreSplits, keys_of_part};
-ghost use Rattle.crack_core.specs.Steps.{IsOutcomeAt, IsLayoutOutcome, IsFoldOutcome, tables_after, changed_at};
+ghost use Rattle.crack_core.specs.Steps.{IsOutcomeAt, IsLayoutOutcome, IsCheckpointOutcome, tables_after, changed_at};
 ghost use Rattle.crack_core.specs.Steps.{IsStatisticsOutcome};
 ghost use Rattle.crack_session.specs.Calls.{Asked, Checkpointed, Looked, Measured, Surveyed};
 
@@ -70,10 +70,10 @@ pub trait Desk {
     /// changes nothing.
     fn checkpoint(&mut self, part: u32) -> Result<u64, Refusal>
         ensures outcome { (known : List PlainView) → tables self.old ≡ Some known →
-            IsFoldOutcome (slice_get known part) result }
+            IsCheckpointOutcome (slice_get known part) result }
         // The plain rows stay as they were. A refusal changes nothing.
         ensures after { (known : List PlainView) → tables self.old ≡ Some known →
-            tables self.new ≡ Some (changed_at checkpointed known part result) }
+            tables self.new ≡ Some (changed_at checkpointed_table known part result) }
 
         ensures splits { splits self.new ≡ splits self.old }
         ensures bounds { bounds self.new ≡ bounds self.old }

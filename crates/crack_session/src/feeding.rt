@@ -18,9 +18,9 @@ use crate::desk::Desk;
 use crate::input::{KEPT_BYTES, feed_at};
 use crate::line::read_line;
 use crate::rest::{Output, Rest, append_answer, append_reply, has_room};
-use crate::session::Progress;
+use crate::session::SessionProgress;
 use arrayvec::ArrayVec;
-use crack_commands::{Ending, LONGEST_TEXT, Statement, leading_insert, push};
+use crack_commands::{ClosingLine, LONGEST_TEXT, Statement, leading_insert, push};
 use crack_row::{Command, Key, Payload, Policy, Refusal, Reply};
 use std::alloc::Global;
 use std::marker::Model;
@@ -47,9 +47,9 @@ use std::mem;
 #[derive(Drop)]
 pub struct Session {
     begun: ArrayVec<u8, KEPT_BYTES>,
-    progress: Progress,
+    progress: SessionProgress,
     rest: Rest,
-    ending: Option<Ending>,
+    ending: Option<ClosingLine>,
 }
 
 /// Why a session stopped taking bytes.
@@ -96,7 +96,7 @@ impl Session {
     {
         Session {
             begun: ArrayVec::new(),
-            progress: Progress {
+            progress: SessionProgress {
                 statements: 0,
                 first_short: None,
                 policy,
@@ -210,8 +210,8 @@ impl Session {
         ensures goes_on { IfNone result (self.now.ending ≡ None) }
     {
         match self.ending {
-            Some(Ending::Quit) => Some(Why::Quit),
-            Some(Ending::Http) => Some(Why::Refused),
+            Some(ClosingLine::Quit) => Some(Why::Quit),
+            Some(ClosingLine::Http) => Some(Why::Refused),
             None => {
                 if left == 0 {
                     Some(Why::Wants)
@@ -397,7 +397,7 @@ impl Session {
 }
 
 /// Counts an answer, and records a new policy and the first refusal for lack of room.
-fn note(progress: &mut Progress, answer: &Answer)
+fn note(progress: &mut SessionProgress, answer: &Answer)
     ensures { progress.new ≡ progress_after progress.old answer.now }
 {
     progress.statements = progress.statements.saturating_add(1);
@@ -410,7 +410,10 @@ fn note(progress: &mut Progress, answer: &Answer)
 }
 
 /// How a statement ends the session, or `ending` if it doesn't.
-fn ended_by(ending: Option<Ending>, reading: &Result<Statement, Refusal>) -> Option<Ending>
+fn ended_by(
+    ending: Option<ClosingLine>,
+    reading: &Result<Statement, Refusal>,
+) -> Option<ClosingLine>
     ensures { result ≡ ending_after ending reading.now }
 {
     match reading {

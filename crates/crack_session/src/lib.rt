@@ -18,7 +18,7 @@ pub use desk::Desk;
 pub use feeding::{Fed, Session, Why};
 pub use rest::Output;
 pub use serving::serve;
-pub use session::{End, Fault, How};
+pub use session::{Fault, How, SessionEnd};
 
 /// The greatest length of a statement's line, in bytes, without its line feed and one carriage return before it.
 pub const LINE_BYTES: usize = 200;

@@ -10,7 +10,7 @@ use crate::answer::Answer;
 use crate::query::ReplyList;
 use arrayvec::ArrayVec;
 use crack_commands::{
-    LONGEST_TEXT, TEXT_BYTES, policy_line, push, push_count, push_folded, push_gone, push_head,
+    LONGEST_TEXT, TEXT_BYTES, policy_line, push, push_checkpoint, push_count, push_gone, push_head,
     push_layout_head, push_numbers, push_piece, push_placed, push_refusal, push_row, push_sum,
 };
 use crack_core::PartReply;
@@ -194,7 +194,7 @@ pub fn append_answer(answer: Answer, out: &mut Output) -> Rest
         }
         Answer::Counted(total) => push_count(out, total),
         Answer::Summed(total) => push_sum(out, total),
-        Answer::Folded(count) => push_folded(out, count),
+        Answer::CheckpointMade(count) => push_checkpoint(out, count),
         Answer::Numbers {
             statistics,
             traffic,

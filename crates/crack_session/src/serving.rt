@@ -13,7 +13,7 @@ use crate::feeding::{Fed, Session, Why};
 use crate::input::READ_BYTES;
 use crate::output::flush;
 use crate::rest::Output;
-use crate::session::{End, Fault, How};
+use crate::session::{Fault, How, SessionEnd};
 use crack_commands::send;
 use crack_row::{Policy, Refusal, Watched};
 use std::alloc::Global;
@@ -31,7 +31,7 @@ pub fn serve<D: Desk, R: Read, W: Write>(
     policy: Policy,
     reader: &mut Watched<R>,
     writer: &mut Watched<W>,
-) -> Result<End, Fault>
+) -> Result<SessionEnd, Fault>
     // Whatever the devices do, the desk executed exactly what the statements of some bytes require, and the texts of
     // the answers were written. If the reader's bytes are known, they are these bytes; if the writer's contents are
     // known, the texts follow them.
@@ -55,7 +55,7 @@ pub fn serve<D: Desk, R: Read, W: Write>(
 {
     let mut session = Session::new(policy);
     match serve_reads(alloc, desk, &mut session, reader, writer) {
-        Ok(how) => Ok(End {
+        Ok(how) => Ok(SessionEnd {
             how,
             statements: session.statements(),
             first_short: session.first_short(),

@@ -22,7 +22,7 @@ pub enum How {
 /// let ended = serve(alloc, &mut desk, Policy::Complete, &mut reader, &mut writer);
 /// ```
 #[derive(Clone, Copy, PartialEq, Eq, Debug)]
-pub struct End {
+pub struct SessionEnd {
     pub how: How,
     /// How many statements were answered.
     pub statements: u64,
@@ -44,9 +44,9 @@ pub struct Fault {
     pub first_short: Option<u64>,
 }
 
-/// The counts of a session, as in `End`, and its current policy.
+/// The counts of a session, as in `SessionEnd`, and its current policy.
 #[derive(Clone, Copy)]
-pub(crate) struct Progress {
+pub(crate) struct SessionProgress {
     pub(crate) statements: u64,
     pub(crate) first_short: Option<u64>,
     pub(crate) policy: Policy,

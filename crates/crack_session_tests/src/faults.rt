@@ -2,7 +2,7 @@
 use crate::session::{core, ended, joined, session};
 use crack_failing::{ONE_BYTE, Sink, Source};
 use crack_row::{GREATEST_LIMIT, Policy, Refusal, Watched};
-use crack_session::{End, Fault};
+use crack_session::{Fault, SessionEnd};
 use std::alloc::Global;
 use std::process::Abort;
 
@@ -61,7 +61,7 @@ struct Devices {
 /// The observed result of a session.
 #[derive(Drop)]
 struct Seen {
-    result: Result<End, Fault>,
+    result: Result<SessionEnd, Fault>,
     /// Whether the reader or the writer failed.
     failed: bool,
     /// How many bytes are left in the reader, and how often it was read.

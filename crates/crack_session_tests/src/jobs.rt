@@ -1,7 +1,7 @@
 //! Steps and checkpoints that one thread makes one after the other, under small limits: their results, as texts.
 use crate::scripts::{Lines, texts_of};
 use crate::session::room;
-use crate::texts::{add_folded, add_refusal, add_reply};
+use crate::texts::{add_checkpoint, add_refusal, add_reply};
 use crack_commands::{Statement, parse_statement};
 use crack_core::{Core, Done, Job, Step};
 use crack_row::{
@@ -31,7 +31,7 @@ fn command_of(statement: Statement) -> Option<Command> {
 fn job_of(rt: &impl Abort, line: &str) -> Job {
     let statement = parse_statement(line.as_bytes()).expect(rt, "a statement");
     if let Statement::Checkpoint(part) = statement {
-        return Job::Fold(part);
+        return Job::Checkpoint(part);
     }
     let command = command_of(statement).expect(rt, "a command");
     Job::Perform(Step {
@@ -60,7 +60,7 @@ fn text_of(rt: &impl Abort, alloc: Global, done: &[Result<Done, Refusal>]) -> Ve
                 let reply = reply.copy(alloc).expect(rt, "memory");
                 add_reply(rt, &mut text, 0, reply);
             }
-            Ok(Done::Folded(count)) => add_folded(rt, &mut text, *count),
+            Ok(Done::CheckpointMade(count)) => add_checkpoint(rt, &mut text, *count),
             Err(refusal) => add_refusal(rt, &mut text, refusal),
         }
     }

@@ -14,7 +14,7 @@ ghost use Rattle.crack_csv.specs.Exports.{IsExported};
 use crack_core::Core;
 use crack_csv::export_csv;
 use crack_row::{Bound, Policy, Refusal, Watched};
-use crack_session::{End, serve};
+use crack_session::{SessionEnd, serve};
 use std::alloc::Global;
 use std::io::{Read, Write};
 use std::process::Abort;
@@ -27,7 +27,7 @@ fn serve_both<R: Read, W: Write>(
     first: &mut Watched<R>,
     second: &mut Watched<R>,
     writer: &mut Watched<W>,
-) -> Result<(End, End), Refusal>
+) -> Result<(SessionEnd, SessionEnd), Refusal>
     ensures { IfOk result (λ ends. (bytes more out : List ℕ) →
         R.remaining (device first.old) ≡ Some bytes → R.remaining (device second.old) ≡ Some more →
         W.contents (device writer.old) ≡ Some out →
@@ -56,7 +56,7 @@ fn serve_and_export<R: Read, W: Write>(
     core: &mut Core,
     reader: &mut Watched<R>,
     writer: &mut Watched<W>,
-) -> Result<(End, u64), Refusal>
+) -> Result<(SessionEnd, u64), Refusal>
     ensures { IfOk result (λ told. (bytes out : List ℕ) →
         R.remaining (device reader.old) ≡ Some bytes → W.contents (device writer.old) ≡ Some out →
         (between : List PlainView) × (answers : List Answer)

@@ -1,6 +1,6 @@
 //! Lists of rows that one call inserts, beside the same rows inserted one by one into a second core.
 use crate::session::bounds_of;
-use crack_core::{Core, Progress};
+use crack_core::{BulkProgress, Core};
 use crack_part::Partition;
 use crack_row::{
     GREATEST_CELLS, GREATEST_LIFE, Key, KeyRange, Limits, Payload, Refusal, RowNo, Upkeep,
@@ -132,7 +132,7 @@ fn insert_all(
     payloads: &[i64],
     parts: &mut [u32],
     serials: &mut [u64],
-) -> Progress {
+) -> BulkProgress {
     assert!(rt; payloads.len() == keys.len() && parts.len() == keys.len());
     assert!(rt; serials.len() == keys.len());
     core.insert_many(keys, payloads, parts, serials)

@@ -3,7 +3,7 @@ use crate::plain_desk::PlainDesk;
 use crate::session::{assert_told, core, joined, room, tell};
 use crack_failing::{ONE_BYTE, Source};
 use crack_row::{BoundNumber, GREATEST_LIMIT, Policy};
-use crack_session::{Desk, End, How, LINE_BYTES};
+use crack_session::{Desk, How, LINE_BYTES, SessionEnd};
 use std::alloc::Global;
 use std::process::Abort;
 
@@ -25,7 +25,7 @@ pub struct Script {
 pub fn assert_script(rt: &impl Abort, alloc: Global, script: Script) {
     let input = joined(rt, alloc, script.input);
     let replies = joined(rt, alloc, script.replies);
-    let end = End {
+    let end = SessionEnd {
         how: script.how,
         statements: script.statements,
         first_short: script.first_short,

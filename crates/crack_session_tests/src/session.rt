@@ -7,7 +7,7 @@ use crack_row::{
     Bound, BoundNumber, Command, GREATEST_LIMIT, Key, KeyRange, Payload, Policy, Refusal, Reply,
     Serial, Watched,
 };
-use crack_session::{Desk, End, Fault, How, serve};
+use crack_session::{Desk, Fault, How, SessionEnd, serve};
 use std::alloc::Global;
 use std::io::{Read, Write};
 use std::process::Abort;
@@ -19,13 +19,13 @@ pub fn session<D: Desk, R: Read, W: Write>(
     policy: Policy,
     reader: &mut Watched<R>,
     writer: &mut Watched<W>,
-) -> Result<End, Fault> {
+) -> Result<SessionEnd, Fault> {
     serve(alloc, desk, policy, reader, writer)
 }
 
 /// The expected result of a session whose input ends after this many statements.
-pub fn ended(statements: u64, first_short: Option<u64>) -> End {
-    End {
+pub fn ended(statements: u64, first_short: Option<u64>) -> SessionEnd {
+    SessionEnd {
         how: How::InputEnded,
         statements,
         first_short,
@@ -57,7 +57,7 @@ pub fn tell<D: Desk>(
     desk: &mut D,
     policy: Policy,
     source: Source<'_>,
-) -> (Result<End, Fault>, Vec<u8>) {
+) -> (Result<SessionEnd, Fault>, Vec<u8>) {
     let mut reader = Watched::new(source);
     let mut writer = Watched::new(room(rt, alloc));
     let end = session(alloc, desk, policy, &mut reader, &mut writer);
@@ -72,7 +72,7 @@ pub fn assert_told<D: Desk>(
     desk: &mut D,
     source: Source<'_>,
     replies: &[u8],
-    end: End,
+    end: SessionEnd,
 ) {
     let (told, text) = tell(rt, alloc, desk, Policy::Complete, source);
     assert_eq!(rt; (told, text.as_slice()), (Ok(end), replies));

@@ -1,5 +1,5 @@
 //! Texts of replies, checkpoints and refusals, as sessions append them.
-use crack_commands::{push_folded, push_refusal, push_row};
+use crack_commands::{push_checkpoint, push_refusal, push_row};
 use crack_row::{Refusal, Reply, Row};
 use crack_session::Output;
 use crack_session::rest::append_reply;
@@ -19,9 +19,9 @@ pub fn add_reply(rt: &impl Abort, text: &mut Vec<u8>, part: u32, reply: Reply) {
 }
 
 /// Adds the line of a checkpoint, with its number of commands.
-pub fn add_folded(rt: &impl Abort, text: &mut Vec<u8>, folded: u64) {
+pub fn add_checkpoint(rt: &impl Abort, text: &mut Vec<u8>, checkpointed: u64) {
     let mut out = Output::new();
-    push_folded(&mut out, folded);
+    push_checkpoint(&mut out, checkpointed);
     add(rt, text, &out);
 }
 

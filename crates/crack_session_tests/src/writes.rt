@@ -3,7 +3,7 @@ use crate::log::{Log, Logged};
 use crate::session::{core, session};
 use crack_failing::{Sink, Source};
 use crack_row::{GREATEST_LIMIT, Policy, Watched};
-use crack_session::{End, How};
+use crack_session::{How, SessionEnd};
 use std::alloc::Global;
 use std::process::Abort;
 
@@ -86,7 +86,7 @@ fn log_it(rt: &impl Abort, alloc: Global, case: Case, log: &Log) {
     let result = session(alloc, &mut desk, Policy::Complete, &mut reader, &mut writer);
     drop(writer);
     drop(desk);
-    let end = End {
+    let end = SessionEnd {
         how: case.how,
         statements: case.statements,
         first_short: None,

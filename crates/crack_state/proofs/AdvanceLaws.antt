@@ -81,7 +81,7 @@ advances_by policy s u t keys cells doomed bounds follows reads some tallies = r
   pending_out = rw doomed at some;
 }
 
-carried_in : (s t : State) (i out : ℕ) (c : Carried) → i < length s.pending_in → IsIntact s [] → Pushes (lifted i s) c → t.tally ≡ record c.store.tally { taken_out = t.tally.taken_out } → t.pending_in ≡ c.store.pending_in → Follows c.store t → StillReads c.store.cells t.cells → SomeOf t.pending_out c.store.pending_out → Rises out c.store.tally.taken_out t.tally.taken_out → length t.pending_out + out ≡ length c.store.pending_out → out ≤ 1 → CarriedIn s t i
+carried_in : (s t : State) (i out : ℕ) (c : Carried) → i < length s.pending_in → IsIntact s [] → Pushes (lifted i s) c → t.tally ≡ record c.store.tally { deletions = t.tally.deletions } → t.pending_in ≡ c.store.pending_in → Follows c.store t → StillReads c.store.cells t.cells → SomeOf t.pending_out c.store.pending_out → Rises out c.store.tally.deletions t.tally.deletions → length t.pending_out + out ≡ length c.store.pending_out → out ≤ 1 → CarriedIn s t i
 carried_in s t i out c inside intact pushes ends ends_in follows reads some rises ends_out one =
     let doomed = ap (λ (x : State). x.pending_out) pushes.same in
     record {
@@ -92,21 +92,21 @@ carried_in s t i out c inside intact pushes ends ends_in follows reads some rise
 
 pub CarriedIn-appended : (s : State) (i : ℕ) (c : Carried) → i < length s.pending_in → IsIntact s [] → Pushes (lifted i s) c → CarriedIn s (appended c) i
 CarriedIn-appended s i c inside intact pushes =
-    carried_in s (appended c) i 0 c inside intact pushes refl refl (Follows-appended c) (StillReads-refl c.store.cells) (SomeOf-refl c.store.pending_out) (Rises-none c.store.tally.taken_out c.store.tally.taken_out refl) (omega arith) (omega arith)
+    carried_in s (appended c) i 0 c inside intact pushes refl refl (Follows-appended c) (StillReads-refl c.store.cells) (SomeOf-refl c.store.pending_out) (Rises-none c.store.tally.deletions c.store.tally.deletions refl) (omega arith) (omega arith)
 
 pub CarriedIn-buried : (s : State) (i : ℕ) (c : Carried) → i < length s.pending_in → IsIntact s [] → Pushes (lifted i s) c → IsDoomed c → IsIntact c.store (c.hand ∷ []) → CarriedIn s (buried c) i
 CarriedIn-buried s i c inside intact pushes doomed now =
-    let taken = c.store.tally.taken_out in
+    let taken = c.store.tally.deletions in
     let place = place_in c.store.pending_out c.hand.slot in
-    carried_in s (buried c) i 1 c inside intact pushes refl refl (Follows-buried c doomed now) (StillReads-buried c now) (SomeOf-remove c.store.pending_out place) (Rises-one taken (buried c).tally.taken_out taken refl refl now.counted.taken_out) (omega (arith, length-remove c.store.pending_out place (doomed_stands c doomed now).within)) (omega arith)
+    carried_in s (buried c) i 1 c inside intact pushes refl refl (Follows-buried c doomed now) (StillReads-buried c now) (SomeOf-remove c.store.pending_out place) (Rises-one taken (buried c).tally.deletions taken refl refl now.counted.deletions) (omega (arith, length-remove c.store.pending_out place (doomed_stands c doomed now).within)) (omega arith)
 
 -- a pending insertion was lifted
 pub Advances-lifted : (policy : Policy) (i : ℕ) (s : State) → i < length s.pending_in → IsIntact s [] → Advances policy s (lifted i s).store
 Advances-lifted policy i s inside intact = record {
   follows = Follows-lifted i s;
   tallies = Tallies-step policy s (lifted i s).store 1 0
-      (Rises-one s.tally.put_in (lifted i s).store.tally.put_in s.tally.put_in refl refl intact.counted.put_in)
-      (Rises-none s.tally.taken_out s.tally.taken_out refl)
+      (Rises-one s.tally.insertions (lifted i s).store.tally.insertions s.tally.insertions refl refl intact.counted.insertions)
+      (Rises-none s.tally.deletions s.tally.deletions refl)
       refl
       (omega arith)
       (omega arith)
@@ -123,8 +123,8 @@ pub Advances-lifted_last : (policy : Policy) (s : State) → Advances policy s (
 Advances-lifted_last policy s = record {
   follows = Follows-lifted_last s;
   tallies = Tallies-step policy s (lifted_last s).store 0 0
-      (Rises-none s.tally.put_in s.tally.put_in refl)
-      (Rises-none s.tally.taken_out s.tally.taken_out refl)
+      (Rises-none s.tally.insertions s.tally.insertions refl)
+      (Rises-none s.tally.deletions s.tally.deletions refl)
       refl
       (omega arith)
       (omega arith)
@@ -198,8 +198,8 @@ tallies_drawn policy s e drawn within intact =
     let tally = ap (λ (x : State). x.tally) drawn.same in
     let moved = ap (λ (x : MergeReport). x.moved) tally in
     Tallies-step policy s (buried e) 0 1
-    (Rises-none s.tally.put_in e.store.tally.put_in (ap (λ (x : MergeReport). x.put_in) tally))
-    (Rises-one s.tally.taken_out (buried e).tally.taken_out e.store.tally.taken_out refl (ap (λ (x : MergeReport). x.taken_out) tally) intact.counted.taken_out)
+    (Rises-none s.tally.insertions e.store.tally.insertions (ap (λ (x : MergeReport). x.insertions) tally))
+    (Rises-one s.tally.deletions (buried e).tally.deletions e.store.tally.deletions refl (ap (λ (x : MergeReport). x.deletions) tally) intact.counted.deletions)
     (ap (λ (x : MergeReport). x.evicted) tally)
     (omega (arith, moved))
     (omega (arith, moved))

@@ -16,7 +16,7 @@ use Rattle.crack_state.specs.Steps.{lifted, pushed_on, SameButRoom}
 use Rattle.crack_state.specs.Merge.{outside_of}
 use Rattle.crack_state.proofs.StepLaws.{IsIntact-lifted, IsIntact-pushed_on, IsIntact-room}
 use Rattle.crack_state.proofs.BuryLaws.{live_rows-buried}
-use Rattle.crack_state.specs.Queues.{Event, comes, turns, stopped}
+use Rattle.crack_state.specs.Queues.{CarryState, comes, turns, stopped}
 use Rattle.crack_state.proofs.OneByOne.{outcome}
 use Rattle.crack_state.specs.Carried.{is_over, is_doomed, ends_with, inside_of, arrivals, carried_in_bulk, pieces_of}
 use Rattle.crack_state.proofs.Carried.{Leads}
@@ -94,7 +94,7 @@ over_outside : (ceiling : Option ℕ) (r : Range) (key : ℕ) → IsUnder ceilin
 over_outside ceiling r key under over = λ inside. false≢true (sym (under key inside) ∙ over)
 
 -- the row that a carry evicts isn't of the range
-evicted_outside : (ceiling : Option ℕ) (r : Range) (t : State) (e : Event Handle) → IsUnder ceiling r → OfEnd (λ y. ends_with ceiling t y ≡ true) e → All (IsOutside r (key_at t.cells)) (evicted_of t e)
+evicted_outside : (ceiling : Option ℕ) (r : Range) (t : State) (e : CarryState Handle) → IsUnder ceiling r → OfEnd (λ y. ends_with ceiling t y ≡ true) e → All (IsOutside r (key_at t.cells)) (evicted_of t e)
 evicted_outside ceiling r t (comes x) high end = All-nil (IsOutside r (key_at t.cells))
 evicted_outside ceiling r t (turns moved) high end = All-nil (IsOutside r (key_at t.cells))
 evicted_outside ceiling r t (stopped moved y) high end = elim (cases_Bool (is_doomed t y)) [
@@ -132,7 +132,7 @@ module _ (ceiling : Option ℕ) (r : Range) (high : IsUnder ceiling r) (On : ℕ
     roomy : with_room a b v ≡ v
     stays : All (StaysAs t v) v.pending_in
     outside : All (IsOutside r (key_at v.cells)) (back ++ evicted)
-    same : (h : Handle) (es : List (Event Handle)) (left : List Handle) → t.pending_in ≡ passed ++ h ∷ (todo ++ back) → All (OfComing (StaysAs t v)) es → with_room a b (bulk_from ceiling es (left ++ evicted) v) ≡ with_room a b (bulk_from ceiling (comes h ∷ es) left t)
+    same : (h : Handle) (es : List (CarryState Handle)) (left : List Handle) → t.pending_in ≡ passed ++ h ∷ (todo ++ back) → All (OfComing (StaysAs t v)) es → with_room a b (bulk_from ceiling es (left ++ evicted) v) ≡ with_room a b (bulk_from ceiling (comes h ∷ es) left t)
 
   step : (h : Handle) (todo : List Handle) (t : State) (from : ℕ) (passed back : List Handle) → IsIntact t [] → t.pending_in ≡ passed ++ h ∷ (todo ++ back) → from ≤ length passed → NoneFrom r (key_at t.cells) from passed → All (IsOutside r (key_at t.cells)) back → On from t → IsIn r (key_at t.cells h) → Step t passed todo back
   step h todo t from passed back intact pending order none outside before inside =
@@ -144,7 +144,7 @@ module _ (ceiling : Option ℕ) (r : Range) (high : IsUnder ceiling r) (On : ℕ
       let led = Leads-at ceiling place t a b within under intact in
       let u : State = with_room led.0 led.1 t in
       let v : State = with_room a b (carried_at ceiling place t) in
-      let e : Event Handle = outcome (key_at t.cells) (ends_with ceiling t) (comes (lifted place t).hand) (pieces_of t) in
+      let e : CarryState Handle = outcome (key_at t.cells) (ends_with ceiling t) (comes (lifted place t).hand) (pieces_of t) in
       let evicted : List Handle = evicted_of t e in
       let lifted_intact = IsIntact-lifted place u within (IsIntact-room t u [] (record { same = refl }) intact) in
       let stays = StaysAs-Leads ceiling (lifted place u) v lifted_intact led.2 in

@@ -28,7 +28,7 @@ first_appended s = appended (lifted 0 s)
 -- if there is no bound, those after it are appended as before
 pub all-first : (s : State) (h : Handle) (hs : List Handle) → s.marks ≡ [] → s.pending_in ≡ h ∷ hs → all_appended (first_appended s) ≡ record (all_appended s) { column_room = s.column_room - 1 }
 all-first s h hs none first =
-    rw (none, first, append_assoc s.column (h ∷ []) hs, more_and s.tally.put_in (length hs)) refl
+    rw (none, first, append_assoc s.column (h ∷ []) hs, more_and s.tally.insertions (length hs)) refl
 
 -- a hand that was lifted isn't doomed
 pub lifted-lasting : (s : State) → 0 < length s.pending_in → IsIntact s [] → times (lifted 0 s).hand.slot (slots s.pending_out) ≡ 0
@@ -46,8 +46,8 @@ IsIntact-first s none some intact =
 
 pub all-none : (s : State) → s.pending_in ≡ [] → IsIntact s [] → all_appended s ≡ s
 all-none s none intact =
-    let zero : s.tally.put_in + 0 ≡ s.tally.put_in = omega arith in
-    let same : min (s.tally.put_in + 0) greatest ≡ s.tally.put_in = min-eq_left (omega (arith, intact.counted.put_in)) ∙ zero in
+    let zero : s.tally.insertions + 0 ≡ s.tally.insertions = omega arith in
+    let same : min (s.tally.insertions + 0) greatest ≡ s.tally.insertions = min-eq_left (omega (arith, intact.counted.insertions)) ∙ zero in
     rw (none, append-nil s.column, same) refl
 
 pub IsIntact-all : (hs : List Handle) (s : State) → s.pending_in ≡ hs → s.marks ≡ [] → IsIntact s [] → IsIntact (all_appended s) []

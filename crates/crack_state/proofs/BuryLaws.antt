@@ -19,7 +19,7 @@ use Rattle.crack_state.specs.Steps.{IsDoomed, buried}
 use Rattle.crack_state.specs.Merge.{Follows}
 use Rattle.crack_state.proofs.OwnedLaws.{times-taken, times-places, once-most, once-within, HandApart, hand_apart}
 use Rattle.crack_state.proofs.CellLaws.{AgreeOff-set, Reads-off, keys-off, generation_of_read, stands_there}
-use Rattle.crack_state.proofs.Counters.{IsCounted-taken_out}
+use Rattle.crack_state.proofs.Counters.{IsCounted-deletions}
 use Rattle.crack_state.proofs.LiveLaws.{none_either, Hides, Hides-emptied, live_at-off}
 use Rattle.crack_state.proofs.KeyedLaws.{IsKeyed-less}
 
@@ -143,7 +143,7 @@ IsIntact-buried c doomed intact =
     (λ n g ne found. found)
     intact.keyed)
     (omega (arith, intact.few_freed, length-remove s.pending_out (place_in s.pending_out slot) known.place))
-    (IsCounted-taken_out s.tally intact.counted)
+    (IsCounted-deletions s.tally intact.counted)
     intact
 
 -- commands see the same rows

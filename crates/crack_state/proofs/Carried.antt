@@ -6,7 +6,7 @@ use Rattle.crack_state.specs.State.{State, Carried}
 use Rattle.crack_state.specs.Steps.{hand_key, piece_end, IsDoomed, IsBelow, pushed_on, appended, buried, returned}
 use Rattle.crack_state.specs.Merge.{outside_of}
 use Rattle.crack_state.specs.Pieces.{column_of}
-use Rattle.crack_state.specs.Carried.{pieces_of, moved_by, inside_of, put_in_by}
+use Rattle.crack_state.specs.Carried.{pieces_of, moved_by, inside_of, insertions_by}
 use Rattle.crack_state.proofs.Sifts.{sifted, all_made_way, risen}
 
 -- a carry, step by step, each by the first rule that holds
@@ -30,5 +30,5 @@ carried_by_sifting r s =
       column = column_of (sifted key 0 rows (pieces_of s));
       marks = map (risen key rows) s.marks;
       pending_in = outside_of s.cells r s.pending_in;
-      tally = moved_by (all_made_way key 0 rows (pieces_of s)) (put_in_by (length rows) s.tally);
+      tally = moved_by (all_made_way key 0 rows (pieces_of s)) (insertions_by (length rows) s.tally);
     }

@@ -14,7 +14,7 @@ use Rattle.crack_state.specs.State.{State, Carried, greatest}
 use Rattle.crack_state.specs.Steps.{raise_next, more, IsBelow, pushed_on, appended, buried, returned}
 use Rattle.crack_state.specs.Pieces.{Pieces, last, below, column_of, marks_of}
 use Rattle.crack_state.proofs.Divided.{AreDivided}
-use Rattle.crack_state.specs.Queues.{Event, comes, turns, stopped}
+use Rattle.crack_state.specs.Queues.{CarryState, comes, turns, stopped}
 use Rattle.crack_state.proofs.OneByOne.{reached, outcome}
 use Rattle.crack_state.specs.Carried.{is_over, is_doomed, ends_with, moved_by, carried_with}
 use Rattle.crack_state.proofs.Carried.{Leads, buries, evicts, ends, goes_on}
@@ -22,7 +22,7 @@ use Rattle.crack_state.proofs.BulkLaws.{reached-stopped, outcome-stopped}
 use Rattle.crack_state.proofs.PieceMarkLaws.{mark_at, next_mark-skips, raised-here, raised-lower, raised-behind_first}
 
 -- the store after a carry has ended in this way, with this column and these marks
-abbrev pub landed : State → List Handle → List Mark → Event Handle → State
+abbrev pub landed : State → List Handle → List Mark → CarryState Handle → State
 landed s column marks (comes x) = record s { column = column; marks = marks }
 landed s column marks (turns moved) =
     record s {

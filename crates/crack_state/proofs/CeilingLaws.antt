@@ -18,8 +18,8 @@ use Rattle.crack_state.specs.declared.MergeReport.{MergeReport}
 use Rattle.crack_state.specs.State.{State, IsIntact, greatest}
 use Rattle.crack_state.specs.Merge.{outside_of}
 use Rattle.crack_state.specs.Pieces.{Pieces, last, below, column_of, marks_of, cut}
-use Rattle.crack_state.specs.Queues.{Event, comes, turns, stopped, is_below, any_row, after_event, after_turn, onward, next, left_after, passed, in_bulk, bulk_outcomes}
-use Rattle.crack_state.specs.Carried.{pieces_of, is_doomed, ends_with, moved_by, ended_so, ended_by, inside_of, put_in_by, arrivals, carried_in_bulk}
+use Rattle.crack_state.specs.Queues.{CarryState, comes, turns, stopped, is_below, any_row, after_event, after_turn, onward, next, left_after, passed, in_bulk, bulk_outcomes}
+use Rattle.crack_state.specs.Carried.{pieces_of, is_doomed, ends_with, moved_by, ended_so, ended_by, inside_of, insertions_by, arrivals, carried_in_bulk}
 use Rattle.crack_state.proofs.Divided.{AreDivided}
 use Rattle.crack_state.proofs.Sifts.{sifted, all_made_way, count_below, OfMet, risen}
 use Rattle.crack_state.proofs.OneByOne.{reached, outcome, outcomes}
@@ -130,10 +130,10 @@ module _ {X : Type 0} (key : X → ℕ) where
 
 module _ {X : Type 0} (key : X → ℕ) (stops : X → Bool) where
   -- the row that comes in is below the bound
-  abbrev IsUnder : InnerBound → Event X → Type 0
+  abbrev IsUnder : InnerBound → CarryState X → Type 0
   IsUnder bound e = OfComing (λ x. key x < bound.0) e
 
-  last-below : (bound : InnerBound) (es : List (Event X)) (rows : List X) → All (IsUnder bound) es → (left_after key stops (any_row key stops) es rows ≡ left_after key stops (is_below key stops bound) es rows) × (passed key stops (any_row key stops) es rows ≡ passed key stops (is_below key stops bound) es rows)
+  last-below : (bound : InnerBound) (es : List (CarryState X)) (rows : List X) → All (IsUnder bound) es → (left_after key stops (any_row key stops) es rows ≡ left_after key stops (is_below key stops bound) es rows) × (passed key stops (any_row key stops) es rows ≡ passed key stops (is_below key stops bound) es rows)
   last-below bound [] rows all = (refl, refl)
   last-below bound (comes x ∷ es) rows all =
       let under = lt-ltb (key x) bound.0 (All-head (IsUnder bound) (comes x) es all) in
@@ -146,14 +146,14 @@ module _ {X : Type 0} (key : X → ℕ) (stops : X → Bool) where
       let rest = last-below bound es rows (All-tail (IsUnder bound) (stopped moved y) es all) in
       (rest.0, ap (λ on. stopped moved y ∷ on) rest.1)
 
-  All-passed : (P : X → Type 0) (own : X → Bool) (es : List (Event X)) (rows : List X) → All (OfComing P) es → All (OfComing P) (passed key stops own es rows)
+  All-passed : (P : X → Type 0) (own : X → Bool) (es : List (CarryState X)) (rows : List X) → All (OfComing P) es → All (OfComing P) (passed key stops own es rows)
   All-passed P own [] rows all = All-nil (OfComing P)
   All-passed P own (e ∷ es) rows all =
-      let on : List (Event X) = passed key stops own es (after_event key stops own e rows) in
+      let on : List (CarryState X) = passed key stops own es (after_event key stops own e rows) in
       All-cons (OfComing P) (next key stops own e rows) on (OfComing-next key stops P own e rows (All-head (OfComing P) e es all)) (All-passed P own es (after_event key stops own e rows) (All-tail (OfComing P) e es all))
 
   -- if all rows that come in are of pieces below a bound, the rows that go on from these pieces reach the others
-  in_bulk-joined : (es : List (Event X)) (pieces : Pieces X) (bound : InnerBound) (others : Pieces X) → All (IsUnder bound) es → (in_bulk key stops es (joined pieces bound others) ≡ joined (in_bulk key stops es pieces) bound (in_bulk key stops (bulk_outcomes key stops es pieces) others)) × (bulk_outcomes key stops es (joined pieces bound others) ≡ bulk_outcomes key stops (bulk_outcomes key stops es pieces) others)
+  in_bulk-joined : (es : List (CarryState X)) (pieces : Pieces X) (bound : InnerBound) (others : Pieces X) → All (IsUnder bound) es → (in_bulk key stops es (joined pieces bound others) ≡ joined (in_bulk key stops es pieces) bound (in_bulk key stops (bulk_outcomes key stops es pieces) others)) × (bulk_outcomes key stops es (joined pieces bound others) ≡ bulk_outcomes key stops (bulk_outcomes key stops es pieces) others)
   in_bulk-joined es (last rows) bound others all =
       let same = last-below bound es rows all in
       rw (same.0, same.1) (refl, refl)
@@ -162,21 +162,21 @@ module _ {X : Type 0} (key : X → ℕ) (stops : X → Bool) where
       let rest = in_bulk-joined (passed key stops own es rows) pieces bound others (All-passed (λ x. key x < bound.0) own es rows all) in
       (ap (below (left_after key stops own es rows) b) rest.0, rest.1)
 
-  length-passed : (own : X → Bool) (es : List (Event X)) (rows : List X) → length (passed key stops own es rows) ≡ length es
+  length-passed : (own : X → Bool) (es : List (CarryState X)) (rows : List X) → length (passed key stops own es rows) ≡ length es
   length-passed own [] rows = refl
   length-passed own (e ∷ es) rows = ap suc (length-passed own es (after_event key stops own e rows))
 
-  length-outcomes : (es : List (Event X)) (pieces : Pieces X) → length (bulk_outcomes key stops es pieces) ≡ length es
+  length-outcomes : (es : List (CarryState X)) (pieces : Pieces X) → length (bulk_outcomes key stops es pieces) ≡ length es
   length-outcomes es (last rows) = length-passed (any_row key stops) es rows
   length-outcomes es (below rows b pieces) = length-outcomes (passed key stops (is_below key stops b) es rows) pieces ∙ length-passed (is_below key stops b) es rows
 
-  arriving-turns : (es : List (Event X)) → All IsTurn es → arriving es ≡ length es
+  arriving-turns : (es : List (CarryState X)) → All IsTurn es → arriving es ≡ length es
   arriving-turns [] all = refl
   arriving-turns (comes x ∷ es) all = absurd (All-head IsTurn (comes x) es all)
   arriving-turns (turns moved ∷ es) all = ap suc (arriving-turns es (All-tail IsTurn (turns moved) es all))
   arriving-turns (stopped moved y ∷ es) all = absurd (All-head IsTurn (stopped moved y) es all)
 
-  none-comes : (e : Event X) → IsTurn e → NoneComes e
+  none-comes : (e : CarryState X) → IsTurn e → NoneComes e
   none-comes (comes x) is = absurd is
   none-comes (turns moved) is = tt
   none-comes (stopped moved y) is = absurd is
@@ -185,7 +185,7 @@ module _ {X : Type 0} (key : X → ℕ) (stops : X → Bool) where
   Ends x = stops x ≡ true
 
   -- how a carry ends that reaches these rows, each of which ends one: with the first in hand, if there is one
-  abbrev fallen : Event X → List X → Event X
+  abbrev fallen : CarryState X → List X → CarryState X
   fallen (comes x) hs = comes x
   fallen (turns moved) [] = turns moved
   fallen (turns moved) (y ∷ ys) = stopped (suc moved) y
@@ -211,7 +211,7 @@ module _ {X : Type 0} (key : X → ℕ) (stops : X → Bool) where
       }
 
 -- how carries end that reach these rows one after the other
-abbrev pub all_fallen : {X : Type 0} → List (Event X) → List X → List (Event X)
+abbrev pub all_fallen : {X : Type 0} → List (CarryState X) → List X → List (CarryState X)
 all_fallen [] hs = []
 all_fallen (comes x ∷ es) hs = comes x ∷ all_fallen es hs
 all_fallen (turns moved ∷ es) [] = turns moved ∷ all_fallen es []
@@ -219,7 +219,7 @@ all_fallen (turns moved ∷ es) (y ∷ ys) = stopped (suc moved) y ∷ all_falle
 all_fallen (stopped moved y ∷ es) hs = stopped moved y ∷ all_fallen es hs
 
 module _ {X : Type 0} (key : X → ℕ) (stops : X → Bool) where
-  outcomes-fallen : (es : List (Event X)) (pieces : Pieces X) → All IsTurn es → Each (λ x. stops x ≡ true) pieces → outcomes key stops es pieces ≡ all_fallen es (column_of pieces)
+  outcomes-fallen : (es : List (CarryState X)) (pieces : Pieces X) → All IsTurn es → Each (λ x. stops x ≡ true) pieces → outcomes key stops es pieces ≡ all_fallen es (column_of pieces)
   outcomes-fallen [] pieces all each = refl
   outcomes-fallen (comes x ∷ es) pieces all each = absurd (All-head IsTurn (comes x) es all)
   outcomes-fallen (turns moved ∷ es) pieces all each =
@@ -249,7 +249,7 @@ evicted-nil made s counted =
     rw (append-nil s.pending_in, none) refl
 
 -- they are evicted one after the other, one for each carry
-ended_by-fallen : (es : List (Event Handle)) (hs : List Handle) (s : State) → All IsTurn es → All (λ h. is_doomed s h ≡ false) (take (length es) hs) → s.tally.moved ≤ greatest → s.tally.evicted ≤ greatest → ended_by (all_fallen es hs) s ≡ evicted_all (take (length es) hs) (sum_by moved_of es + length (take (length es) hs)) s
+ended_by-fallen : (es : List (CarryState Handle)) (hs : List Handle) (s : State) → All IsTurn es → All (λ h. is_doomed s h ≡ false) (take (length es) hs) → s.tally.moved ≤ greatest → s.tally.evicted ≤ greatest → ended_by (all_fallen es hs) s ≡ evicted_all (take (length es) hs) (sum_by moved_of es + length (take (length es) hs)) s
 ended_by-fallen [] hs s all lasting moved evicted =
     let none : min (s.tally.moved + 0) greatest ≡ s.tally.moved = min-eq_left (omega (arith, moved)) ∙ omega arith in
     sym (evicted-nil 0 s evicted ∙ rw none refl)
@@ -334,7 +334,7 @@ carried_under r s low m high =
       column = column_of (sifted key 0 rows pieces) ++ drop (length rows) beyond;
       marks = map (risen key rows) low ++ map (at_least (m.position + length rows)) (m ∷ high);
       pending_in = outside_of s.cells r s.pending_in;
-      tally = put_in_by (length rows) s.tally;
+      tally = insertions_by (length rows) s.tally;
     })
 
 -- no carry of a range meets a doomed row, and no row that comes in is at or above the ceiling
@@ -363,7 +363,7 @@ module _ (r : Range) (s : State) (low : List Mark) (m : Mark) (high : List Mark)
   abbrev upper : Pieces Handle
   upper = cut m.position high beyond
 
-  abbrev outs : List (Event Handle)
+  abbrev outs : List (CarryState Handle)
   outs = bulk_outcomes key stops (arrivals r s) lower
 
   split : pieces_of s ≡ joined lower m.bound upper
@@ -448,7 +448,7 @@ module _ (r : Range) (s : State) (low : List Mark) (m : Mark) (high : List Mark)
         column = column_of (sifted key 0 rows lower) ++ drop (length rows) beyond;
         marks = map (risen key rows) low ++ map (at_least (m.position + length rows)) (m ∷ high);
         pending_in = outside_of s.cells r s.pending_in;
-        tally = put_in_by (length rows) s.tally;
+        tally = insertions_by (length rows) s.tally;
       } in
       let lasting : All (λ h. is_doomed s h ≡ false) (take (length outs) beyond) = rw one.many go.beyond in
       let done : ended_by (all_fallen outs beyond) before ≡ carried_under r s low m high =

@@ -5,7 +5,7 @@ use Rattle.std.proofs.lemmas.Bool.{cases_lt, cases_Bool, lt-ltb, le-ltb}
 use Rattle.std.proofs.lemmas.List.{append-nil, append_assoc, length_push}
 use Rattle.std.proofs.lemmas.List.Elements.{All-nil, All-head, All-tail, All-push}
 use Rattle.std.proofs.lemmas.List.Sums.{sum_by-cons}
-use Rattle.crack_state.specs.Queues.{Event, comes, turns, stopped, passed}
+use Rattle.crack_state.specs.Queues.{CarryState, comes, turns, stopped, passed}
 use Rattle.crack_column.specs.Sifts.{turned_once, one_if_some}
 use Rattle.crack_state.proofs.SiftLaws.{moved_of}
 use Rattle.crack_state.proofs.Placed.{reaching, turners, survivors, placed, front, behind_front, made_way_to, counted_over}
@@ -83,7 +83,7 @@ module _ {X : Type 0} (key : X → ℕ) (stops : X → Bool) where
   ]
 
   -- the count of the carries when they leave a piece
-  pub total-passed : (low : ℕ) (own : X → Bool) → ((x : X) → key x < low → own x ≡ true) → (xs : List X) (es : List (Event X)) (rows : List X) → AreOn key stops low xs es → sum_by moved_of (passed key stops own es rows) ≡ sum_by moved_of es + made_way_to key stops low (reaching key stops own xs es) rows
+  pub total-passed : (low : ℕ) (own : X → Bool) → ((x : X) → key x < low → own x ≡ true) → (xs : List X) (es : List (CarryState X)) (rows : List X) → AreOn key stops low xs es → sum_by moved_of (passed key stops own es rows) ≡ sum_by moved_of es + made_way_to key stops low (reaching key stops own xs es) rows
   total-passed low own lower [] [] rows are = omega arith
   total-passed low own lower [] (e ∷ es) rows are = absurd are
   total-passed low own lower (x ∷ xs) [] rows are = absurd are

@@ -42,17 +42,17 @@ Rises-one before after n is same small =
     record { rises = omega (arith, is, same, counter.rises small); exact = λ less. omega (arith, is, same, counter.exact (omega (arith, is, less))) }
 
 -- a tally still fits after one counter is raised
-pub IsCounted-put_in : (tally : MergeReport) → IsCounted tally → IsCounted (record tally { put_in = more tally.put_in })
-IsCounted-put_in tally counted = record { put_in = (raised_counter tally.put_in).fits; taken_out = counted.taken_out; evicted = counted.evicted; moved = counted.moved; pulled = counted.pulled }
+pub IsCounted-insertions : (tally : MergeReport) → IsCounted tally → IsCounted (record tally { insertions = more tally.insertions })
+IsCounted-insertions tally counted = record { insertions = (raised_counter tally.insertions).fits; deletions = counted.deletions; evicted = counted.evicted; moved = counted.moved; pulled = counted.pulled }
 
-pub IsCounted-taken_out : (tally : MergeReport) → IsCounted tally → IsCounted (record tally { taken_out = more tally.taken_out })
-IsCounted-taken_out tally counted = record { put_in = counted.put_in; taken_out = (raised_counter tally.taken_out).fits; evicted = counted.evicted; moved = counted.moved; pulled = counted.pulled }
+pub IsCounted-deletions : (tally : MergeReport) → IsCounted tally → IsCounted (record tally { deletions = more tally.deletions })
+IsCounted-deletions tally counted = record { insertions = counted.insertions; deletions = (raised_counter tally.deletions).fits; evicted = counted.evicted; moved = counted.moved; pulled = counted.pulled }
 
 pub IsCounted-evicted : (tally : MergeReport) → IsCounted tally → IsCounted (record tally { evicted = more tally.evicted })
-IsCounted-evicted tally counted = record { put_in = counted.put_in; taken_out = counted.taken_out; evicted = (raised_counter tally.evicted).fits; moved = counted.moved; pulled = counted.pulled }
+IsCounted-evicted tally counted = record { insertions = counted.insertions; deletions = counted.deletions; evicted = (raised_counter tally.evicted).fits; moved = counted.moved; pulled = counted.pulled }
 
 pub IsCounted-moved : (tally : MergeReport) → IsCounted tally → IsCounted (record tally { moved = more tally.moved })
-IsCounted-moved tally counted = record { put_in = counted.put_in; taken_out = counted.taken_out; evicted = counted.evicted; moved = (raised_counter tally.moved).fits; pulled = counted.pulled }
+IsCounted-moved tally counted = record { insertions = counted.insertions; deletions = counted.deletions; evicted = counted.evicted; moved = (raised_counter tally.moved).fits; pulled = counted.pulled }
 
 pub IsCounted-pulled : (tally : MergeReport) → IsCounted tally → IsCounted (record tally { pulled = more tally.pulled })
-IsCounted-pulled tally counted = record { put_in = counted.put_in; taken_out = counted.taken_out; evicted = counted.evicted; moved = counted.moved; pulled = (raised_counter tally.pulled).fits }
+IsCounted-pulled tally counted = record { insertions = counted.insertions; deletions = counted.deletions; evicted = counted.evicted; moved = counted.moved; pulled = (raised_counter tally.pulled).fits }

@@ -6,7 +6,7 @@ use Rattle.std.proofs.lemmas.List.Elements.{All-nil, All-cons, All-head, All-tai
 use Rattle.crack_row.specs.declared.InnerBound.{InnerBound}
 use Rattle.crack_state.specs.Pieces.{Pieces, last, below}
 use Rattle.crack_state.proofs.Divided.{AreDivided}
-use Rattle.crack_state.specs.Queues.{Event, comes, turns, stopped, is_below, any_row, left_after, passed, in_bulk, bulk_outcomes}
+use Rattle.crack_state.specs.Queues.{CarryState, comes, turns, stopped, is_below, any_row, left_after, passed, in_bulk, bulk_outcomes}
 use Rattle.crack_state.proofs.Placed.{reaching, turners, met_by, survivors, placed, pass_over, going, placed_all, sifted_down}
 use Rattle.crack_state.proofs.PlacedLaws.{met-own, survivors-own, pass_over-placed}
 
@@ -15,30 +15,30 @@ module _ {X : Type 0} (key : X → ℕ) (stops : X → Bool) where
   Goes x = stops x ≡ false
 
   -- the event of a row that came in, when it reaches a piece that begins at this bound
-  abbrev IsOn : ℕ → X → Event X → Type 0
+  abbrev IsOn : ℕ → X → CarryState X → Type 0
   IsOn low x (comes y) = (y ≡ x) × (low ≤ key x)
   IsOn low x (turns moved) = key x < low
   IsOn low x (stopped moved y) = key x < low
 
-  abbrev pub AreOn : ℕ → List X → List (Event X) → Type 0
+  abbrev pub AreOn : ℕ → List X → List (CarryState X) → Type 0
   AreOn low [] [] = Unit {0}
   AreOn low [] (e ∷ es) = ⊥
   AreOn low (x ∷ xs) [] = ⊥
   AreOn low (x ∷ xs) (e ∷ es) = IsOn low x e × AreOn low xs es
 
   -- and when it has left a piece, whose own rows and those of lower ones pass this test
-  abbrev IsOut : (X → Bool) → X → Event X → Type 0
+  abbrev IsOut : (X → Bool) → X → CarryState X → Type 0
   IsOut own x (comes y) = (y ≡ x) × (own x ≡ false)
   IsOut own x (turns moved) = own x ≡ true
   IsOut own x (stopped moved y) = own x ≡ true
 
-  abbrev AreOut : (X → Bool) → List X → List (Event X) → Type 0
+  abbrev AreOut : (X → Bool) → List X → List (CarryState X) → Type 0
   AreOut own [] [] = Unit {0}
   AreOut own [] (e ∷ es) = ⊥
   AreOut own (x ∷ xs) [] = ⊥
   AreOut own (x ∷ xs) (e ∷ es) = IsOut own x e × AreOut own xs es
 
-  out_on : (bound : InnerBound) (xs : List X) (es : List (Event X)) → AreOut (is_below key stops bound) xs es → AreOn bound.0 xs es
+  out_on : (bound : InnerBound) (xs : List X) (es : List (CarryState X)) → AreOut (is_below key stops bound) xs es → AreOn bound.0 xs es
   out_on bound [] [] are = tt
   out_on bound [] (e ∷ es) are = absurd are
   out_on bound (x ∷ xs) [] are = absurd are
@@ -47,7 +47,7 @@ module _ {X : Type 0} (key : X → ℕ) (stops : X → Bool) where
   out_on bound (x ∷ xs) (stopped moved y ∷ es) are = (ltb-true (key x) bound.0 are.0, out_on bound xs es are.1)
 
   -- the rows of lower pieces that reach a piece are those whose carries go on
-  turners-going : (low : ℕ) (own : X → Bool) (xs : List X) (es : List (Event X)) → AreOn low xs es → turners key stops low (reaching key stops own xs es) ≡ going key stops xs es
+  turners-going : (low : ℕ) (own : X → Bool) (xs : List X) (es : List (CarryState X)) → AreOn low xs es → turners key stops low (reaching key stops own xs es) ≡ going key stops xs es
   turners-going low own [] [] are = refl
   turners-going low own [] (e ∷ es) are = absurd are
   turners-going low own (x ∷ xs) [] are = absurd are
@@ -61,7 +61,7 @@ module _ {X : Type 0} (key : X → ℕ) (stops : X → Bool) where
   turners-going low own (x ∷ xs) (stopped moved y ∷ es) are = turners-going low own xs es are.1
 
   -- no row that reaches a piece ends a carry if none that comes in does
-  All-reaching : (own : X → Bool) (xs : List X) (es : List (Event X)) → All Goes xs → All Goes (reaching key stops own xs es)
+  All-reaching : (own : X → Bool) (xs : List X) (es : List (CarryState X)) → All Goes xs → All Goes (reaching key stops own xs es)
   All-reaching own [] es all = All-nil Goes
   All-reaching own (x ∷ xs) [] all = All-nil Goes
   All-reaching own (x ∷ xs) (comes y ∷ es) all =
@@ -74,12 +74,12 @@ module _ {X : Type 0} (key : X → ℕ) (stops : X → Bool) where
   All-reaching own (x ∷ xs) (stopped moved y ∷ es) all = All-reaching own xs es (All-tail Goes x xs all)
 
   -- a piece after the events, and which carries go on
-  record Met (low : ℕ) (own : X → Bool) (xs : List X) (es : List (Event X)) (rows : List X) : Type 0 where
+  record Met (low : ℕ) (own : X → Bool) (xs : List X) (es : List (CarryState X)) (rows : List X) : Type 0 where
     left_is : left_after key stops own es rows ≡ met_by key stops low (reaching key stops own xs es) rows
     on_are : going key stops xs (passed key stops own es rows) ≡ survivors key stops low (reaching key stops own xs es) rows
     out_are : AreOut own xs (passed key stops own es rows)
 
-  met : (low : ℕ) (own : X → Bool) → ((x : X) → key x < low → own x ≡ true) → (xs : List X) (es : List (Event X)) (rows : List X) → AreOn low xs es → Met low own xs es rows
+  met : (low : ℕ) (own : X → Bool) → ((x : X) → key x < low → own x ≡ true) → (xs : List X) (es : List (CarryState X)) (rows : List X) → AreOn low xs es → Met low own xs es rows
   met low own lower [] [] rows are = record { left_is = refl; on_are = refl; out_are = tt }
   met low own lower [] (e ∷ es) rows are = absurd are
   met low own lower (x ∷ xs) [] rows are = absurd are
@@ -131,14 +131,14 @@ module _ {X : Type 0} (key : X → ℕ) (stops : X → Bool) where
       record { left_is = rest.left_is; on_are = rest.on_are; out_are = (lower x are.0, rest.out_are) }
 
   -- one pass
-  one_pass : (low : ℕ) (own : X → Bool) → ((x : X) → key x < low → own x ≡ true) → (xs : List X) (es : List (Event X)) (rows : List X) → AreOn low xs es → All Goes xs → All (λ x. low ≤ key x) rows → pass_over key stops low (going key stops xs (passed key stops own es rows)) [] (placed key stops (turners key stops low (reaching key stops own xs es)) rows) ≡ (going key stops xs es, left_after key stops own es rows)
+  one_pass : (low : ℕ) (own : X → Bool) → ((x : X) → key x < low → own x ≡ true) → (xs : List X) (es : List (CarryState X)) (rows : List X) → AreOn low xs es → All Goes xs → All (λ x. low ≤ key x) rows → pass_over key stops low (going key stops xs (passed key stops own es rows)) [] (placed key stops (turners key stops low (reaching key stops own xs es)) rows) ≡ (going key stops xs es, left_after key stops own es rows)
   one_pass low own lower xs es rows are coming over =
       let one = met low own lower xs es rows are in
       let ws : List X = reaching key stops own xs es in
       let pass = pass_over-placed key stops low ws rows [] [] (All-reaching own xs es coming) over (All-nil (λ x. key x < low)) in
       rw (one.on_are, one.left_is, ← (turners-going low own xs es are)) pass
 
-  pub sifted_down-placed : (low : ℕ) (xs : List X) (es : List (Event X)) (pieces : Pieces X) → AreDivided key low pieces → AreOn low xs es → All Goes xs → sifted_down key stops low (placed_all key stops low xs es pieces) (going key stops xs (bulk_outcomes key stops es pieces)) ≡ (going key stops xs es, in_bulk key stops es pieces)
+  pub sifted_down-placed : (low : ℕ) (xs : List X) (es : List (CarryState X)) (pieces : Pieces X) → AreDivided key low pieces → AreOn low xs es → All Goes xs → sifted_down key stops low (placed_all key stops low xs es pieces) (going key stops xs (bulk_outcomes key stops es pieces)) ≡ (going key stops xs es, in_bulk key stops es pieces)
   sifted_down-placed low xs es (last rows) divided are coming =
       rw (one_pass low (any_row key stops) (λ x under. refl) xs es rows are coming divided) refl
   sifted_down-placed low xs es (below rows bound pieces) divided are coming =

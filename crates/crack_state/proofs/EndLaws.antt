@@ -16,7 +16,7 @@ use Rattle.crack_state.specs.State.{State, Reads, freed_of, greatest}
 use Rattle.crack_state.proofs.BuryLaws.{freed_of-emptied}
 use Rattle.crack_state.proofs.CellLaws.{AgreeOff-set, Reads-off, stands_there, cell_within, row_read}
 use Rattle.crack_state.proofs.OwnedLaws.{times-taken}
-use Rattle.crack_state.specs.Queues.{Event, comes, turns, stopped}
+use Rattle.crack_state.specs.Queues.{CarryState, comes, turns, stopped}
 use Rattle.crack_state.specs.Carried.{moved_by, is_doomed, ended_so, ended_by}
 use Rattle.crack_state.specs.Pulled.{buried_all}
 use Rattle.crack_state.proofs.FallLaws.{AreBuried}
@@ -24,19 +24,19 @@ use Rattle.crack_state.proofs.SiftLaws.{moved_of}
 use Rattle.crack_state.proofs.SiftedLaws.{min_and}
 
 -- the rows with which carries have ended, in the order of time
-abbrev pub hands_of : {X : Type 0} → List (Event X) → List X
+abbrev pub hands_of : {X : Type 0} → List (CarryState X) → List X
 hands_of [] = []
 hands_of (comes x ∷ es) = hands_of es
 hands_of (turns moved ∷ es) = hands_of es
 hands_of (stopped moved y ∷ es) = y ∷ hands_of es
 
 -- no event is that of a row that hasn't reached its own piece yet
-abbrev pub HasCome : {X : Type 0} → Event X → Type 0
+abbrev pub HasCome : {X : Type 0} → CarryState X → Type 0
 HasCome (comes x) = ⊥
 HasCome (turns moved) = Unit {0}
 HasCome (stopped moved y) = Unit {0}
 
-pub ended_by-buried : (es : List (Event Handle)) (s : State) → All HasCome es → AreBuried (hands_of es) s.cells s.pending_out → s.tally.moved ≤ greatest → ended_by es s ≡ buried_all (hands_of es) (record s { tally = moved_by (sum_by moved_of es) s.tally })
+pub ended_by-buried : (es : List (CarryState Handle)) (s : State) → All HasCome es → AreBuried (hands_of es) s.cells s.pending_out → s.tally.moved ≤ greatest → ended_by es s ≡ buried_all (hands_of es) (record s { tally = moved_by (sum_by moved_of es) s.tally })
 ended_by-buried [] s all buried counted =
     let none : min (s.tally.moved + 0) greatest ≡ s.tally.moved = min-eq_left (omega (arith, counted)) ∙ omega arith in
     rw none refl
@@ -52,7 +52,7 @@ ended_by-buried (stopped moved y ∷ es) s all buried counted =
       cells = set s.cells y.slot (record { generation = y.generation + 1; value = None });
       free = y.slot ∷ s.free;
       pending_out = remove s.pending_out (place_in s.pending_out y.slot);
-      tally = record (moved_by moved s.tally) { taken_out = min (s.tally.taken_out + 1) greatest };
+      tally = record (moved_by moved s.tally) { deletions = min (s.tally.deletions + 1) greatest };
     } in
     let rest = ended_by-buried es after (All-tail HasCome (stopped moved y) es all) buried.3 (omega arith) in
     let both : min (min (s.tally.moved + moved) greatest + sum_by moved_of es) greatest ≡ min (s.tally.moved + sum_by moved_of (stopped moved y ∷ es)) greatest =

@@ -6,7 +6,7 @@ use Rattle.std.proofs.lemmas.List.{drop-append-le, drop_all, length-drop}
 use Rattle.std.proofs.lemmas.List.Elements.{All-head, All-tail, All-cons, All-same}
 use Rattle.crack_index.specs.declared.mark.Mark.{Mark}
 use Rattle.crack_state.specs.Pieces.{Pieces, last, below, column_of, marks_of}
-use Rattle.crack_state.specs.Queues.{Event, comes, turns, stopped, is_below, any_row, left_after, passed, in_bulk}
+use Rattle.crack_state.specs.Queues.{CarryState, comes, turns, stopped, is_below, any_row, left_after, passed, in_bulk}
 use Rattle.crack_state.proofs.AgreeLaws.{Each}
 use Rattle.crack_state.proofs.TurnLaws.{arriving}
 
@@ -15,7 +15,7 @@ abbrev pub at_least : ℕ → Mark → Mark
 at_least place m = record m { position = max m.position place }
 
 -- no row comes in: all stay below
-abbrev pub NoneComes : {X : Type 0} → Event X → Type 0
+abbrev pub NoneComes : {X : Type 0} → CarryState X → Type 0
 NoneComes (comes x) = ⊥
 NoneComes (turns moved) = Unit {0}
 NoneComes (stopped moved y) = Unit {0}
@@ -43,12 +43,12 @@ module _ {X : Type 0} (key : X → ℕ) (stops : X → Bool) where
   Ends x = stops x ≡ true
 
   -- a piece beyond the ceiling after carries, and how many carries go on
-  record Taken (own : X → Bool) (es : List (Event X)) (rows : List X) : Type 0 where
+  record Taken (own : X → Bool) (es : List (CarryState X)) (rows : List X) : Type 0 where
     left_is : left_after key stops own es rows ≡ drop (arriving es) rows
     on_are : arriving (passed key stops own es rows) ≡ arriving es - length rows
     none : All NoneComes (passed key stops own es rows)
 
-  taken : (own : X → Bool) (es : List (Event X)) (rows : List X) → All NoneComes es → All Ends rows → Taken own es rows
+  taken : (own : X → Bool) (es : List (CarryState X)) (rows : List X) → All NoneComes es → All Ends rows → Taken own es rows
   taken own [] rows come all = record { left_is = refl; on_are = omega arith; none = λ k d h. absurd (omega (arith, h)) }
   taken own (comes x ∷ es) rows come all = absurd (All-head NoneComes (comes x) es come)
   taken own (turns moved ∷ es) [] come all =
@@ -73,7 +73,7 @@ module _ {X : Type 0} (key : X → ℕ) (stops : X → Bool) where
       record { left_is = rest.left_is; on_are = rest.on_are; none = All-cons NoneComes (stopped moved y) (passed key stops own es rows) tt rest.none }
 
   -- the rows of the pieces beyond the ceiling
-  pub column_of-beyond : (es : List (Event X)) (pieces : Pieces X) → All NoneComes es → Each Ends pieces → column_of (in_bulk key stops es pieces) ≡ drop (arriving es) (column_of pieces)
+  pub column_of-beyond : (es : List (CarryState X)) (pieces : Pieces X) → All NoneComes es → Each Ends pieces → column_of (in_bulk key stops es pieces) ≡ drop (arriving es) (column_of pieces)
   column_of-beyond es (last rows) come all = (taken (any_row key stops) es rows come all).left_is
   column_of-beyond es (below rows bound pieces) come all =
       let own = is_below key stops bound in
@@ -96,11 +96,11 @@ module _ {X : Type 0} (key : X → ℕ) (stops : X → Bool) where
           rw (here, higher place at (from + length rows) pieces (omega (arith, order))) refl
 
   -- and the marks between them
-  pub marks_of-beyond : (place : ℕ) (es : List (Event X)) (pieces : Pieces X) → All NoneComes es → Each Ends pieces → marks_of (place + arriving es) (in_bulk key stops es pieces) ≡ map (at_least (place + arriving es)) (marks_of place pieces)
+  pub marks_of-beyond : (place : ℕ) (es : List (CarryState X)) (pieces : Pieces X) → All NoneComes es → Each Ends pieces → marks_of (place + arriving es) (in_bulk key stops es pieces) ≡ map (at_least (place + arriving es)) (marks_of place pieces)
   marks_of-beyond place es (last rows) come all = refl
   marks_of-beyond place es (below rows bound pieces) come all =
       let own = is_below key stops bound in
-      let on : List (Event X) = passed key stops own es rows in
+      let on : List (CarryState X) = passed key stops own es rows in
       let one = taken own es rows come all.0 in
       let top : ℕ = max (place + length rows) (place + arriving es) in
       let here : (place + arriving es) + length (left_after key stops own es rows) ≡ top = omega (arith, ap length one.left_is, length-drop (arriving es) rows) in

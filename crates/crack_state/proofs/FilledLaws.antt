@@ -145,7 +145,7 @@ module _ (s : State) (low : List Mark) (edge : Mark) (high : List Mark) (d f : H
         let sum : (n1 + 1) + (n2 + length fs) ≡ all_drawn first_key itself 0 (d ∷ ds) P0 + suc (length fs) = omega (arith, drawn-cons first_key 0 d ds P0) in
         let drew : min (min (s.tally.pulled + (n1 + 1)) greatest + (n2 + length fs)) greatest ≡ min (s.tally.pulled + (all_drawn first_key itself 0 (d ∷ ds) P0 + suc (length fs))) greatest = min_and s.tally.pulled (n1 + 1) (n2 + length fs) ∙ ap (λ n. min (s.tally.pulled + n) greatest) sum in
         let one_more : 1 + length fs ≡ suc (length fs) = omega arith in
-        let came : min (min (s.tally.put_in + 1) greatest + length fs) greatest ≡ min (s.tally.put_in + suc (length fs)) greatest = min_and s.tally.put_in 1 (length fs) ∙ ap (λ n. min (s.tally.put_in + n) greatest) one_more in
+        let came : min (min (s.tally.insertions + 1) greatest + length fs) greatest ≡ min (s.tally.insertions + suc (length fs)) greatest = min_and s.tally.insertions 1 (length fs) ∙ ap (λ n. min (s.tally.insertions + n) greatest) one_more in
         let behind : drop (edge.position - 1) (column_of P1 ++ (f ∷ drop edge.position s.column)) ≡ f ∷ drop edge.position s.column = drop_at (column_of P1) (f ∷ drop edge.position s.column) (edge.position - 1) long in
         let front : reverse fs ++ (f ∷ drop edge.position s.column) ≡ reverse (f ∷ fs) ++ drop edge.position s.column = sym (append_assoc (reverse fs) (f ∷ []) (drop edge.position s.column)) ∙ ap (λ hs. hs ++ drop edge.position s.column) (sym (reverse-append (f ∷ []) fs)) in
         let falls : (edge.position - 1) - length ds ≡ edge.position - suc (length ds) = omega arith in
@@ -157,7 +157,7 @@ filled-none s low edge high marks_are intact =
     let key = key_at s.cells in
     let P = pieces_under s low edge in
     let none : min (s.tally.pulled + (0 + 0)) greatest ≡ s.tally.pulled = min-eq_left (omega (arith, intact.counted.pulled)) ∙ omega arith in
-    let came : min (s.tally.put_in + 0) greatest ≡ s.tally.put_in = min-eq_left (omega (arith, intact.counted.put_in)) ∙ omega arith in
+    let came : min (s.tally.insertions + 0) greatest ≡ s.tally.insertions = min-eq_left (omega (arith, intact.counted.insertions)) ∙ omega arith in
     let same : edge.position - 0 ≡ edge.position = omega arith in
     rw (pulled-none key 0 P, drawn-none key 0 P) (rw (column_of-cut 0 low (take edge.position s.column), marks-under s low edge high marks_are intact, none, came, same) (rw (take-append-drop edge.position s.column, ← marks_are) refl))
 

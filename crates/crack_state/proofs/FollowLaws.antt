@@ -55,7 +55,7 @@ MayEvict-trans Ripple s t u before a b = λ exact. omega (arith, a (before exact
 MayEvict-trans Auto s t u before a b = b ∙ a
 
 -- if nothing was evicted, no policy is broken
-pub MayEvict-none : (policy : Policy) (s t : State) → s.tally.put_in ≤ t.tally.put_in → t.tally.evicted ≡ s.tally.evicted → MayEvict policy s t
+pub MayEvict-none : (policy : Policy) (s t : State) → s.tally.insertions ≤ t.tally.insertions → t.tally.evicted ≡ s.tally.evicted → MayEvict policy s t
 MayEvict-none Complete s t rises same = same
 MayEvict-none Gradual s t rises same = same
 MayEvict-none Ripple s t rises same = λ _. omega (arith, rises, same)
@@ -64,8 +64,8 @@ MayEvict-none Auto s t rises same = same
 -- no counter is at its greatest number, if none is later
 pub IsExact-before : (policy : Policy) (s t : State) → Tallies policy s t → IsExact t.tally → IsExact s.tally
 IsExact-before policy s t tallies exact = record {
-  put_in = omega (arith, tallies.rises.put_in, exact.put_in);
-  taken_out = omega (arith, tallies.rises.taken_out, exact.taken_out);
+  insertions = omega (arith, tallies.rises.insertions, exact.insertions);
+  deletions = omega (arith, tallies.rises.deletions, exact.deletions);
   evicted = omega (arith, tallies.rises.evicted, exact.evicted);
   moved = omega (arith, tallies.rises.moved, exact.moved);
   pulled = omega (arith, tallies.rises.pulled, exact.pulled);
@@ -73,8 +73,8 @@ IsExact-before policy s t tallies exact = record {
 
 Counts-trans : (s t u : State) (q : ℕ) → Counts s t q → Counts t u q → Counts s u q
 Counts-trans s t u q a b = record {
-  put_in = omega (arith, a.put_in, b.put_in);
-  taken_out = omega (arith, a.taken_out, b.taken_out);
+  insertions = omega (arith, a.insertions, b.insertions);
+  deletions = omega (arith, a.deletions, b.deletions);
   moved = omega (arith, a.moved, b.moved);
   pulled = omega (arith, a.pulled, b.pulled);
 }
@@ -82,8 +82,8 @@ Counts-trans s t u q a b = record {
 pub Tallies-trans : (policy : Policy) (s t u : State) → length t.marks ≡ length s.marks → Tallies policy s t → Tallies policy t u → Tallies policy s u
 Tallies-trans policy s t u same a b = record {
   rises = record {
-    put_in = omega (arith, a.rises.put_in, b.rises.put_in);
-    taken_out = omega (arith, a.rises.taken_out, b.rises.taken_out);
+    insertions = omega (arith, a.rises.insertions, b.rises.insertions);
+    deletions = omega (arith, a.rises.deletions, b.rises.deletions);
     evicted = omega (arith, a.rises.evicted, b.rises.evicted);
     moved = omega (arith, a.rises.moved, b.rises.moved);
     pulled = omega (arith, a.rises.pulled, b.rises.pulled);
@@ -93,14 +93,14 @@ Tallies-trans policy s t u same a b = record {
 }
 
 -- what a step counts that puts in and takes out this many rows, and evicts none
-pub Tallies-step : (policy : Policy) (s t : State) (put out : ℕ) → Rises put s.tally.put_in t.tally.put_in → Rises out s.tally.taken_out t.tally.taken_out → t.tally.evicted ≡ s.tally.evicted → s.tally.moved ≤ t.tally.moved → t.tally.moved ≤ s.tally.moved + put * (length s.marks + 1) → s.tally.pulled ≤ t.tally.pulled → t.tally.pulled ≤ s.tally.pulled + out * (length s.marks + 1) → length t.pending_in + put ≡ length s.pending_in → length t.pending_out + out ≡ length s.pending_out → Tallies policy s t
+pub Tallies-step : (policy : Policy) (s t : State) (put out : ℕ) → Rises put s.tally.insertions t.tally.insertions → Rises out s.tally.deletions t.tally.deletions → t.tally.evicted ≡ s.tally.evicted → s.tally.moved ≤ t.tally.moved → t.tally.moved ≤ s.tally.moved + put * (length s.marks + 1) → s.tally.pulled ≤ t.tally.pulled → t.tally.pulled ≤ s.tally.pulled + out * (length s.marks + 1) → length t.pending_in + put ≡ length s.pending_in → length t.pending_out + out ≡ length s.pending_out → Tallies policy s t
 Tallies-step policy s t put out in_rose out_rose evicted moved_rises moved pulled_rises pulled fewer_in fewer_out = record {
-  rises = record { put_in = in_rose.rises; taken_out = out_rose.rises; evicted = omega (arith, evicted); moved = moved_rises; pulled = pulled_rises };
+  rises = record { insertions = in_rose.rises; deletions = out_rose.rises; evicted = omega (arith, evicted); moved = moved_rises; pulled = pulled_rises };
   counts = λ exact. record {
-    put_in = omega (arith, in_rose.exact exact.put_in, fewer_in, evicted);
-    taken_out = omega (arith, out_rose.exact exact.taken_out, fewer_out);
-    moved = by_each t.tally.moved s.tally.moved s.tally.put_in t.tally.put_in put (length s.marks + 1) (in_rose.exact exact.put_in) moved;
-    pulled = by_each t.tally.pulled s.tally.pulled s.tally.taken_out t.tally.taken_out out (length s.marks + 1) (out_rose.exact exact.taken_out) pulled;
+    insertions = omega (arith, in_rose.exact exact.insertions, fewer_in, evicted);
+    deletions = omega (arith, out_rose.exact exact.deletions, fewer_out);
+    moved = by_each t.tally.moved s.tally.moved s.tally.insertions t.tally.insertions put (length s.marks + 1) (in_rose.exact exact.insertions) moved;
+    pulled = by_each t.tally.pulled s.tally.pulled s.tally.deletions t.tally.deletions out (length s.marks + 1) (out_rose.exact exact.deletions) pulled;
   };
   evicts = MayEvict-none policy s t in_rose.rises evicted;
 }
@@ -109,7 +109,7 @@ Tallies-step policy s t put out in_rose out_rose evicted moved_rises moved pulle
     by_each after before old new k q is few = rw is (grind arith)
 
 pub Tallies-room : (policy : Policy) (s t : State) → SameButRoom s t → Tallies policy s t
-Tallies-room policy s t room = rw room.same (Tallies-step policy s (record s { column_room = t.column_room; in_room = t.in_room }) 0 0 (Rises-none s.tally.put_in s.tally.put_in refl) (Rises-none s.tally.taken_out s.tally.taken_out refl) refl (omega arith) (omega arith) (omega arith) (omega arith) (omega arith) (omega arith))
+Tallies-room policy s t room = rw room.same (Tallies-step policy s (record s { column_room = t.column_room; in_room = t.in_room }) 0 0 (Rises-none s.tally.insertions s.tally.insertions refl) (Rises-none s.tally.deletions s.tally.deletions refl) refl (omega arith) (omega arith) (omega arith) (omega arith) (omega arith) (omega arith))
 
 -- the invariant of the pushes of a carry, from a hand that was lifted on: each brings the hand nearer to the column's end
 pub record Pushes (b c : Carried) : Type 0 where
@@ -144,15 +144,15 @@ Follows-Pushes b c pushes =
     Follows-kept b.store c.store (ap (λ (x : State). x.keys) pushes.same) (ap (λ (x : State). x.cells) pushes.same) (ap (λ (x : State). x.pending_out) pushes.same) pushes.bounds
 
 -- a whole carry: lifted, pushed on, and then put after the column, or buried, which takes out a row
-pub Tallies-carried : (policy : Policy) (s t : State) (i out : ℕ) (c : Carried) → i < length s.pending_in → IsIntact s [] → Pushes (lifted i s) c → t.tally ≡ record c.store.tally { taken_out = t.tally.taken_out } → t.pending_in ≡ c.store.pending_in → Rises out c.store.tally.taken_out t.tally.taken_out → length t.pending_out + out ≡ length c.store.pending_out → Tallies policy s t
+pub Tallies-carried : (policy : Policy) (s t : State) (i out : ℕ) (c : Carried) → i < length s.pending_in → IsIntact s [] → Pushes (lifted i s) c → t.tally ≡ record c.store.tally { deletions = t.tally.deletions } → t.pending_in ≡ c.store.pending_in → Rises out c.store.tally.deletions t.tally.deletions → length t.pending_out + out ≡ length c.store.pending_out → Tallies policy s t
 Tallies-carried policy s t i out c inside intact pushes ends ends_in rises ends_out =
-    let tally : t.tally ≡ record s.tally { put_in = more s.tally.put_in; taken_out = t.tally.taken_out; moved = c.store.tally.moved } = ends ∙ ap (λ (x : State). let y : MergeReport = record x.tally { taken_out = t.tally.taken_out } in y) pushes.same in
+    let tally : t.tally ≡ record s.tally { insertions = more s.tally.insertions; deletions = t.tally.deletions; moved = c.store.tally.moved } = ends ∙ ap (λ (x : State). let y : MergeReport = record x.tally { deletions = t.tally.deletions } in y) pushes.same in
     let moved = ap (λ (x : MergeReport). x.moved) tally in
     let pulled = ap (λ (x : MergeReport). x.pulled) tally in
-    let taken_out = ap (λ (x : State). x.tally.taken_out) pushes.same in
+    let deletions = ap (λ (x : State). x.tally.deletions) pushes.same in
     Tallies-step policy s t 1 out
-    (Rises-one s.tally.put_in t.tally.put_in s.tally.put_in (ap (λ (x : MergeReport). x.put_in) tally) refl intact.counted.put_in)
-    (record { rises = omega (arith, rises.rises, taken_out); exact = λ less. omega (arith, rises.exact less, taken_out) })
+    (Rises-one s.tally.insertions t.tally.insertions s.tally.insertions (ap (λ (x : MergeReport). x.insertions) tally) refl intact.counted.insertions)
+    (record { rises = omega (arith, rises.rises, deletions); exact = λ less. omega (arith, rises.exact less, deletions) })
     (ap (λ (x : MergeReport). x.evicted) tally)
     (omega (arith, moved, pushes.moved_rises))
     (omega (arith, moved, pushes.moved, bounds_above-few (hand_key (lifted i s)) s.marks))

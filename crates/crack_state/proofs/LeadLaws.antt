@@ -15,7 +15,7 @@ use Rattle.crack_state.proofs.BuryLaws.{IsIntact-buried, doomed_stands}
 use Rattle.crack_state.proofs.PullLaws.{IsIntact-returned}
 use Rattle.crack_state.proofs.StepLaws.{IsIntact-pushed_on, IsIntact-appended}
 use Rattle.crack_state.specs.Pieces.{column_of, marks_of}
-use Rattle.crack_state.specs.Queues.{Event, comes, turns, stopped}
+use Rattle.crack_state.specs.Queues.{CarryState, comes, turns, stopped}
 use Rattle.crack_state.proofs.OneByOne.{reached, outcome}
 use Rattle.crack_state.specs.Carried.{pieces_of, is_over, is_doomed, ends_with, ended_so}
 use Rattle.crack_state.proofs.Carried.{Leads, buries, evicts, ends, goes_on}
@@ -57,7 +57,7 @@ StaysAs-Leads ceiling c t intact (ends d lasting below at_end) = (λ k e h. (ref
 StaysAs-Leads ceiling c t intact (goes_on d u lasting below before rest) = StaysAs-Leads ceiling (pushed_on d) u (IsIntact-pushed_on d before intact) rest
 
 -- room is made before a carry, so that the store after it has this room
-rooms_before : (s : State) (column : List Handle) (marks : List Mark) (e : Event Handle) (a b : ℕ) → (x : ℕ) × (y : ℕ) × (landed (record s { column_room = x; in_room = y }) column marks e ≡ record (ended_so e s) { column = column; marks = marks; column_room = a; in_room = b })
+rooms_before : (s : State) (column : List Handle) (marks : List Mark) (e : CarryState Handle) (a b : ℕ) → (x : ℕ) × (y : ℕ) × (landed (record s { column_room = x; in_room = y }) column marks e ≡ record (ended_so e s) { column = column; marks = marks; column_room = a; in_room = b })
 rooms_before s column marks (comes x) a b = (a, b, refl)
 rooms_before s column marks (turns moved) a b =
     let one : (a + 1) - 1 ≡ a = omega arith in

@@ -1,4 +1,4 @@
-pub mod AdmitLaws
+pub mod InsertLaws
 pub mod AdvanceLaws
 pub mod AgreeLaws
 pub mod AllCarriedLaws

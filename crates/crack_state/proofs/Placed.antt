@@ -1,12 +1,12 @@
 -- Carries that end with a row in hand: the row that came in takes the place of the one with which its carry ends, and then all are sifted.
 use Rattle.std.specs.Prelude.{ℕ, suc, ◌+◌, length, Bool, cond, nat_lt, filter, List, [], ◌∷◌, ◌++◌}
 use Rattle.crack_state.specs.Pieces.{Pieces, last, below}
-use Rattle.crack_state.specs.Queues.{Event, comes, turns, stopped, is_below, any_row, passed}
+use Rattle.crack_state.specs.Queues.{CarryState, comes, turns, stopped, is_below, any_row, passed}
 use Rattle.crack_column.specs.Sifts.{turned_once, one_if_some}
 
 module _ {X : Type 0} (key : X → ℕ) (stops : X → Bool) where
   -- the rows that reach a piece, of all that come in: their carries haven't ended below, and they are of this piece or of one below
-  abbrev pub reaching : (X → Bool) → List X → List (Event X) → List X
+  abbrev pub reaching : (X → Bool) → List X → List (CarryState X) → List X
   reaching own [] es = []
   reaching own (x ∷ xs) [] = []
   reaching own (x ∷ xs) (comes y ∷ es) = cond (own x) (x ∷ reaching own xs es) (reaching own xs es)
@@ -54,7 +54,7 @@ module _ {X : Type 0} (key : X → ℕ) (stops : X → Bool) where
       cond (nat_lt (key x) low) (pass_over low xs (lower ++ (front low rows ++ x ∷ [])) (turned_once (behind_front low rows))) (pass_over low xs lower (rows ++ x ∷ []))
 
   -- the rows whose carries go on
-  abbrev pub going : List X → List (Event X) → List X
+  abbrev pub going : List X → List (CarryState X) → List X
   going [] es = []
   going (x ∷ xs) [] = []
   going (x ∷ xs) (comes y ∷ es) = going xs es
@@ -62,7 +62,7 @@ module _ {X : Type 0} (key : X → ℕ) (stops : X → Bool) where
   going (x ∷ xs) (stopped moved y ∷ es) = going xs es
 
   -- the pieces, once each row with which a carry ends is replaced by the row that came in
-  abbrev pub placed_all : ℕ → List X → List (Event X) → Pieces X → Pieces X
+  abbrev pub placed_all : ℕ → List X → List (CarryState X) → Pieces X → Pieces X
   placed_all low xs es (last rows) = last (placed (turners low (reaching (any_row key stops) xs es)) rows)
   placed_all low xs es (below rows bound pieces) =
       below (placed (turners low (reaching (is_below key stops bound) xs es)) rows) bound (placed_all bound.0 xs (passed key stops (is_below key stops bound) es rows) pieces)

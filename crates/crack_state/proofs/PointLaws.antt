@@ -26,7 +26,7 @@ use Rattle.crack_state.proofs.OwnedLaws.{places_of, times-taken, times-places}
 use Rattle.crack_state.proofs.CellLaws.{AgreeOff-set, read-off, keys-off, generation_of_read, reads_some, one_handle, stands_there, read-value, cell_within}
 use Rattle.crack_state.proofs.LiveLaws.{All-live_at, Hides, Hides-emptied, live_rows-less, split_at_member}
 use Rattle.crack_state.proofs.KeyedLaws.{maps_this, Maps-over, IsKeyed-lost, forgotten, Maps-forgotten}
-use Rattle.crack_state.proofs.AdmitLaws.{Filled, apart_numbers, IsKeyed-more, IsIntact-grown, live_rows-admitted, freed-admitted, cells-admitted}
+use Rattle.crack_state.proofs.InsertLaws.{Filled, apart_numbers, IsKeyed-more, IsIntact-grown, live_rows-row_inserted, freed-row_inserted, cells-row_inserted}
 use Rattle.crack_state.proofs.BuryLaws.{freed_of-emptied, IsIntact-freed}
 
 -- the handle that a serial leads to, and whether it is a pending insertion
@@ -278,7 +278,7 @@ live_rows-renewed s h row found unlisted few intact =
     let gone = live_rows-doomed s serial h live.row found live.reads intact in
     let fresh = maps_this serial serial None s.serials d.serials (Maps-forgotten serial s.serials) refl in
     let apart = others_live d.cells (slots d.pending_out) d.serials serial (range_with_len 0 (length d.cells)) fresh between.keyed in
-    replaced_in row live.row (live_rows s) (live_rows d) (live_rows (renewed row h s)) live.same apart gone (live_rows-admitted row d between)
+    replaced_in row live.row (live_rows s) (live_rows d) (live_rows (renewed row h s)) live.same apart gone (live_rows-row_inserted row d between)
 
 -- how many cells are new at most, and how often one is freed, now or later
 pub record Spends (made spent : ℕ) (s t : State) : Type 0 where
@@ -314,8 +314,8 @@ Spends-renews row s t column few intact renews =
     let between = IsIntact-between s h row found.leads unlisted few intact in
     rw renews.after.same (record {
       keys = refl;
-      cells = cells-admitted row (between_doomed row h s);
-      freed = omega (arith, freed-admitted row (between_doomed row h s) between, length_push s.pending_out h);
+      cells = cells-row_inserted row (between_doomed row h s);
+      freed = omega (arith, freed-row_inserted row (between_doomed row h s) between, length_push s.pending_out h);
     })
 
 pub Spends-rewrites : (o : Option Bool) (row : Row) (s t : State) → pending_by s row.serial.0 ≡ o → IsRewritable row s → IsIntact s [] → Rewrites o row s t → Spends 1 1 s t

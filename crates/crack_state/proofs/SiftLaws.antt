@@ -8,7 +8,7 @@ use Rattle.std.proofs.lemmas.List.Sums.{sum_by-cons}
 use Rattle.crack_row.specs.declared.InnerBound.{InnerBound}
 use Rattle.crack_state.specs.Pieces.{Pieces, last, below, marks_of}
 use Rattle.crack_state.proofs.Divided.{AreDivided}
-use Rattle.crack_state.specs.Queues.{Event, comes, turns, stopped, is_below, any_row, left_after, passed, in_bulk, bulk_outcomes}
+use Rattle.crack_state.specs.Queues.{CarryState, comes, turns, stopped, is_below, any_row, left_after, passed, in_bulk, bulk_outcomes}
 use Rattle.crack_column.specs.Sifts.{turned_once, one_if_some, below_bound, queued, made_way}
 use Rattle.crack_state.proofs.Sifts.{sifted, all_made_way, count_below, OfMet, risen}
 
@@ -19,13 +19,13 @@ All-take_push P (suc n) [] x all one = All-take P (suc n) (x ∷ []) (All-cons P
 All-take_push P (suc n) (y ∷ ys) x all one = All-cons P y (take n (ys ++ x ∷ [])) (All-head P y (take n ys) all) (All-take_push P n ys x (All-tail P y (take n ys) all) one)
 
 -- how many rows moved before an event
-abbrev pub moved_of : {X : Type 0} → Event X → ℕ
+abbrev pub moved_of : {X : Type 0} → CarryState X → ℕ
 moved_of (comes x) = 0
 moved_of (turns moved) = moved
 moved_of (stopped moved y) = moved
 
 -- no event has ended below
-abbrev pub IsTurn : {X : Type 0} → Event X → Type 0
+abbrev pub IsTurn : {X : Type 0} → CarryState X → Type 0
 IsTurn (comes x) = ⊥
 IsTurn (turns moved) = Unit {0}
 IsTurn (stopped moved y) = ⊥
@@ -35,35 +35,35 @@ module _ {X : Type 0} (key : X → ℕ) (stops : X → Bool) where
   Goes x = stops x ≡ false
 
   -- the event of a row that comes in, when it reaches a piece that begins at this bound
-  abbrev IsOf : ℕ → X → Event X → Type 0
+  abbrev IsOf : ℕ → X → CarryState X → Type 0
   IsOf low x (comes y) = (y ≡ x) × (low ≤ key x)
   IsOf low x (turns moved) = key x < low
   IsOf low x (stopped moved y) = ⊥
 
   -- the events are those of the rows
-  abbrev pub AreOf : ℕ → List X → List (Event X) → Type 0
+  abbrev pub AreOf : ℕ → List X → List (CarryState X) → Type 0
   AreOf low [] [] = Unit {0}
   AreOf low [] (e ∷ es) = ⊥
   AreOf low (x ∷ xs) [] = ⊥
   AreOf low (x ∷ xs) (e ∷ es) = IsOf low x e × AreOf low xs es
 
   -- the event of a row that comes in, when it has left a piece, whose own rows and those of lower ones pass this test
-  abbrev IsNext : (X → Bool) → X → Event X → Type 0
+  abbrev IsNext : (X → Bool) → X → CarryState X → Type 0
   IsNext own x (comes y) = (y ≡ x) × (own x ≡ false)
   IsNext own x (turns moved) = own x ≡ true
   IsNext own x (stopped moved y) = ⊥
 
-  abbrev AreNext : (X → Bool) → List X → List (Event X) → Type 0
+  abbrev AreNext : (X → Bool) → List X → List (CarryState X) → Type 0
   AreNext own [] [] = Unit {0}
   AreNext own [] (e ∷ es) = ⊥
   AreNext own (x ∷ xs) [] = ⊥
   AreNext own (x ∷ xs) (e ∷ es) = IsNext own x e × AreNext own xs es
 
-  total : List (Event X) → ℕ
+  total : List (CarryState X) → ℕ
   total es = sum_by moved_of es
 
   -- a piece after the events, how many of its rows move, and which events go on
-  record Through (low : ℕ) (own : X → Bool) (xs : List X) (es : List (Event X)) (rows : List X) : Type 0 where
+  record Through (low : ℕ) (own : X → Bool) (xs : List X) (es : List (CarryState X)) (rows : List X) : Type 0 where
     left_is : left_after key stops own es rows ≡ queued key low (filter own xs) rows
     total_is : sum_by moved_of (passed key stops own es rows) ≡ sum_by moved_of es + made_way key low (filter own xs) rows
     next_are : AreNext own xs (passed key stops own es rows)
@@ -86,7 +86,7 @@ module _ {X : Type 0} (key : X → ℕ) (stops : X → Bool) where
   made_way-turn : (low : ℕ) (x : X) (xs rows : List X) → key x < low → made_way key low (x ∷ xs) rows ≡ one_if_some rows + made_way key low xs (turned_once rows)
   made_way-turn low x xs rows under = ap (λ b. cond b (one_if_some rows + made_way key low xs (turned_once rows)) (made_way key low xs (rows ++ x ∷ []))) (lt-ltb (key x) low under)
 
-  through : (low : ℕ) (own : X → Bool) → ((x : X) → key x < low → own x ≡ true) → (xs : List X) (es : List (Event X)) (rows : List X) → AreOf low xs es → All Goes xs → All Goes (take (count_below key low xs) rows) → Through low own xs es rows
+  through : (low : ℕ) (own : X → Bool) → ((x : X) → key x < low → own x ≡ true) → (xs : List X) (es : List (CarryState X)) (rows : List X) → AreOf low xs es → All Goes xs → All Goes (take (count_below key low xs) rows) → Through low own xs es rows
   through low own lower [] [] rows are coming met = record { left_is = refl; total_is = omega arith; next_are = tt }
   through low own lower [] (e ∷ es) rows are coming met = absurd are
   through low own lower (x ∷ xs) [] rows are coming met = absurd are
@@ -133,7 +133,7 @@ module _ {X : Type 0} (key : X → ℕ) (stops : X → Bool) where
       }
   through low own lower (x ∷ xs) (stopped moved y ∷ es) rows are coming met = absurd are.0
 
-  of_next : (bound : InnerBound) (xs : List X) (es : List (Event X)) → AreNext (is_below key stops bound) xs es → AreOf bound.0 xs es
+  of_next : (bound : InnerBound) (xs : List X) (es : List (CarryState X)) → AreNext (is_below key stops bound) xs es → AreOf bound.0 xs es
   of_next bound [] [] are = tt
   of_next bound [] (e ∷ es) are = absurd are
   of_next bound (x ∷ xs) [] are = absurd are
@@ -141,7 +141,7 @@ module _ {X : Type 0} (key : X → ℕ) (stops : X → Bool) where
   of_next bound (x ∷ xs) (turns moved ∷ es) are = (ltb-true (key x) bound.0 are.0, of_next bound xs es are.1)
   of_next bound (x ∷ xs) (stopped moved y ∷ es) are = absurd are.0
 
-  all_turn : (xs : List X) (es : List (Event X)) → AreNext (any_row key stops) xs es → All IsTurn es
+  all_turn : (xs : List X) (es : List (CarryState X)) → AreNext (any_row key stops) xs es → All IsTurn es
   all_turn [] [] are = All-nil IsTurn
   all_turn [] (e ∷ es) are = absurd are
   all_turn (x ∷ xs) [] are = absurd are
@@ -154,12 +154,12 @@ module _ {X : Type 0} (key : X → ℕ) (stops : X → Bool) where
   any_kept (x ∷ xs) = ap (λ ys. x ∷ ys) (any_kept xs)
 
   -- all pieces after the events of rows that come in, how many rows move, and how the events end
-  pub record AreSifted (low : ℕ) (xs : List X) (es : List (Event X)) (pieces : Pieces X) : Type 0 where
+  pub record AreSifted (low : ℕ) (xs : List X) (es : List (CarryState X)) (pieces : Pieces X) : Type 0 where
     pub pieces_are : in_bulk key stops es pieces ≡ sifted key low xs pieces
     pub total_is : sum_by moved_of (bulk_outcomes key stops es pieces) ≡ sum_by moved_of es + all_made_way key low xs pieces
     pub turn : All IsTurn (bulk_outcomes key stops es pieces)
 
-  pub AreSifted-of : (low : ℕ) (xs : List X) (es : List (Event X)) (pieces : Pieces X) → AreDivided key low pieces → AreOf low xs es → All Goes xs → OfMet key Goes low xs pieces → AreSifted low xs es pieces
+  pub AreSifted-of : (low : ℕ) (xs : List X) (es : List (CarryState X)) (pieces : Pieces X) → AreDivided key low pieces → AreOf low xs es → All Goes xs → OfMet key Goes low xs pieces → AreSifted low xs es pieces
   AreSifted-of low xs es (last rows) divided are coming met =
       let one = through low (any_row key stops) (λ x under. refl) xs es rows are coming met in
       let all = any_kept xs in

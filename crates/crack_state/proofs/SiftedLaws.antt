@@ -12,9 +12,9 @@ use Rattle.crack_arena.specs.Rows.{key_at}
 use Rattle.crack_state.specs.State.{State, IsIntact, greatest}
 use Rattle.crack_state.specs.Merge.{outside_of}
 use Rattle.crack_state.specs.Pieces.{column_of, marks_of}
-use Rattle.crack_state.specs.Queues.{Event, comes, turns, stopped, in_bulk, bulk_outcomes}
+use Rattle.crack_state.specs.Queues.{CarryState, comes, turns, stopped, in_bulk, bulk_outcomes}
 use Rattle.crack_state.proofs.Sifts.{sifted, all_made_way, count_below, OfMet, risen}
-use Rattle.crack_state.specs.Carried.{pieces_of, is_over, is_doomed, ends_with, moved_by, ended_so, ended_by, inside_of, put_in_by, arrivals, carried_in_bulk}
+use Rattle.crack_state.specs.Carried.{pieces_of, is_over, is_doomed, ends_with, moved_by, ended_so, ended_by, inside_of, insertions_by, arrivals, carried_in_bulk}
 use Rattle.crack_state.proofs.Carried.{carried_by_sifting}
 use Rattle.crack_state.proofs.CutLaws.{IsCut-intact}
 use Rattle.crack_state.proofs.LeadLaws.{pending-lasts}
@@ -32,7 +32,7 @@ min_and n j k = elim (cases_lt (n + j) greatest) [
 ]
 
 -- if none ends with a row in hand, rows moved, and nothing else changed
-ended_by-turns : (es : List (Event Handle)) (s : State) → All IsTurn es → s.tally.moved ≤ greatest → ended_by es s ≡ record s { tally = moved_by (sum_by moved_of es) s.tally }
+ended_by-turns : (es : List (CarryState Handle)) (s : State) → All IsTurn es → s.tally.moved ≤ greatest → ended_by es s ≡ record s { tally = moved_by (sum_by moved_of es) s.tally }
 ended_by-turns [] s all counted =
     let none : min (s.tally.moved + 0) greatest ≡ s.tally.moved = min-eq_left (omega (arith, counted)) ∙ omega arith in
     rw none refl
@@ -69,6 +69,6 @@ carried-sifting ceiling r s intact go =
       column = column_of pieces;
       marks = marks_of 0 pieces;
       pending_in = outside_of s.cells r s.pending_in;
-      tally = put_in_by (length (arrivals r s)) s.tally;
+      tally = insertions_by (length (arrivals r s)) s.tally;
     } in
     ended_by-turns (bulk_outcomes key stops (arrivals r s) (pieces_of s)) before all.turn intact.counted.moved ∙ rw (moved, many, all.pieces_are, marks) refl

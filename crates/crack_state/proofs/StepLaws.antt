@@ -14,7 +14,7 @@ use Rattle.crack_state.specs.declared.MergeReport.{MergeReport}
 use Rattle.crack_state.specs.State.{State, Carried, Reads, IsObeyed, IsIntact}
 use Rattle.crack_state.proofs.Words.{column_keys, IsCounted}
 use Rattle.crack_state.specs.Steps.{hand_key, piece_end, raise_next, more, put_at, lifted, pushed_on, appended, SameButRoom, bounds_above}
-use Rattle.crack_state.proofs.Counters.{IsCounted-put_in, IsCounted-moved}
+use Rattle.crack_state.proofs.Counters.{IsCounted-insertions, IsCounted-moved}
 use Rattle.crack_state.proofs.PieceLaws.{cases_Option, Obeyed-raised, Obeyed-push, Obeyed-push_raised, Divides-listed, AreMarks, AreMarks-intact, AreMarks-map, bounds_above-less}
 use Rattle.crack_state.proofs.OwnedLaws.{times-exchange, times-taken, times-places}
 
@@ -61,7 +61,7 @@ IsIntact-lifted i s within intact =
     (All-removed (Reads s.cells) s.pending_in i owned.pending_reads)
     (All-cons (Reads s.cells) hand [] (All-get_or (Reads s.cells) s.pending_in i no_handle within owned.pending_reads) owned.hand_reads)
     (AreMarks-intact s [] intact)
-    (IsCounted-put_in s.tally intact.counted)
+    (IsCounted-insertions s.tally intact.counted)
     intact
 
 -- the hand and the handle at a place of the column change places

@@ -8,7 +8,7 @@ use Rattle.std.proofs.lemmas.List.Elements.{All-nil, All-cons, All-head, All-tai
 use Rattle.std.proofs.lemmas.List.Sums.{sum_by-cons, sum_by_push, sum_by-append}
 use Rattle.crack_row.specs.declared.InnerBound.{InnerBound}
 use Rattle.crack_state.specs.Pieces.{Pieces, last, below, column_of, marks_of}
-use Rattle.crack_state.specs.Queues.{Event, comes, turns, stopped, is_below, any_row, after_event, onward, after_turn, left_after, passed, in_bulk, bulk_outcomes}
+use Rattle.crack_state.specs.Queues.{CarryState, comes, turns, stopped, is_below, any_row, after_event, onward, after_turn, left_after, passed, in_bulk, bulk_outcomes}
 use Rattle.crack_state.specs.Sweeps.{Swept, Round, goes_on, round, swept, is_lower, any_lower, swept_by}
 use Rattle.crack_state.proofs.SweptUp.{swept_up, swept_marks}
 use Rattle.crack_state.proofs.Divided.{AreDivided}
@@ -22,12 +22,12 @@ module _ {X : Type 0} (key : X → ℕ) (stops : X → Bool) where
   Goes x = stops x ≡ false
 
   -- how far a carry has come, by the row that represents it after the column's last: `under` says which rows turn the next piece
-  abbrev Is : (X → Bool) → Event X → X → Type 0
+  abbrev Is : (X → Bool) → CarryState X → X → Type 0
   Is under (comes x) t = (t ≡ x) × (under x ≡ false) × (stops x ≡ false)
   Is under (turns moved) t = goes_on stops under t ≡ true
   Is under (stopped moved y) t = (t ≡ y) × (stops y ≡ true)
 
-  abbrev pub Are : (X → Bool) → List (Event X) → List X → Type 0
+  abbrev pub Are : (X → Bool) → List (CarryState X) → List X → Type 0
   Are under [] [] = Unit {0}
   Are under [] (t ∷ ts) = ⊥
   Are under (e ∷ es) [] = ⊥
@@ -78,14 +78,14 @@ module _ {X : Type 0} (key : X → ℕ) (stops : X → Bool) where
   ]
 
   -- one more of each
-  Are-push : (own : X → Bool) (es : List (Event X)) (ts : List X) (e : Event X) (t : X) → Are own es ts → Is own e t → Are own (es ++ e ∷ []) (ts ++ t ∷ [])
+  Are-push : (own : X → Bool) (es : List (CarryState X)) (ts : List X) (e : CarryState X) (t : X) → Are own es ts → Is own e t → Are own (es ++ e ∷ []) (ts ++ t ∷ [])
   Are-push own [] [] e t are one = (one, tt)
   Are-push own [] (u ∷ us) e t are one = absurd are
   Are-push own (f ∷ fs) [] e t are one = absurd are
   Are-push own (f ∷ fs) (u ∷ us) e t are one = (are.0, Are-push own fs us e t are.1 one)
 
   -- another row that goes on is at the place of one that does
-  Are-put : (own : X → Bool) (es : List (Event X)) (before after_event : List X) (q t : X) → goes_on stops own q ≡ true → goes_on stops own t ≡ true → Are own es (before ++ q ∷ after_event) → Are own es (before ++ t ∷ after_event)
+  Are-put : (own : X → Bool) (es : List (CarryState X)) (before after_event : List X) (q t : X) → goes_on stops own q ≡ true → goes_on stops own t ≡ true → Are own es (before ++ q ∷ after_event) → Are own es (before ++ t ∷ after_event)
   Are-put own [] [] after_event q t was is are = absurd are
   Are-put own [] (u ∷ us) after_event q t was is are = absurd are
   Are-put own (comes x ∷ es) [] after_event q t was is are =
@@ -96,13 +96,13 @@ module _ {X : Type 0} (key : X → ℕ) (stops : X → Bool) where
   Are-put own (e ∷ es) (u ∷ us) after_event q t was is are = (are.0, Are-put own es us after_event q t was is are.1)
 
   -- the queue turned once, from the places that were passed
-  record Turned (own : X → Bool) (t : X) (done queue : List X) (pre : List (Event X)) (moved : ℕ) : Type 0 where
+  record Turned (own : X → Bool) (t : X) (done queue : List X) (pre : List (CarryState X)) (moved : ℕ) : Type 0 where
     done_is : filter (goes_on stops own) (round stops own t done queue).done ≡ filter (goes_on stops own) done ++ t ∷ []
     queue_is : filter (goes_on stops own) (round stops own t done queue).queue ≡ after_turn key stops (filter (goes_on stops own) queue)
     event : onward key stops moved (filter (goes_on stops own) queue) ≡ turns (moved + (round stops own t done queue).made)
-    are : (more : Event X) → (n : ℕ) → more ≡ turns n → Are own (pre ++ more ∷ []) ((round stops own t done queue).done ++ (round stops own t done queue).queue)
+    are : (more : CarryState X) → (n : ℕ) → more ≡ turns n → Are own (pre ++ more ∷ []) ((round stops own t done queue).done ++ (round stops own t done queue).queue)
 
-  turn : (own : X → Bool) (t : X) (done queue : List X) (pre : List (Event X)) (moved : ℕ) → own t ≡ true → stops t ≡ false → Are own pre (done ++ queue) → Turned own t done queue pre moved
+  turn : (own : X → Bool) (t : X) (done queue : List X) (pre : List (CarryState X)) (moved : ℕ) → own t ≡ true → stops t ≡ false → Are own pre (done ++ queue) → Turned own t done queue pre moved
   turn own t done [] pre moved is lasts are =
       let goes = goes-on own t is lasts in
       let none : moved + 0 ≡ moved = omega arith in
@@ -143,7 +143,7 @@ module _ {X : Type 0} (key : X → ℕ) (stops : X → Bool) where
       ]
 
   -- a piece afterwards, and how far the carries have come
-  record Leaves (under own : X → Bool) (es : List (Event X)) (ts front rows done queue : List X) (pre : List (Event X)) : Type 0 where
+  record Leaves (under own : X → Bool) (es : List (CarryState X)) (ts front rows done queue : List X) (pre : List (CarryState X)) : Type 0 where
     flat : (front ++ filter (goes_on stops own) done) ++ (filter (goes_on stops under) ts ++ left_after key stops own es (rows ++ filter (goes_on stops own) queue)) ≡ (swept stops under own ts front rows done queue).piece ++ filter (goes_on stops own) (swept stops under own ts front rows done queue).tail
     are : Are own (pre ++ passed key stops own es (rows ++ filter (goes_on stops own) queue)) (swept stops under own ts front rows done queue).tail
     made : sum_by moved_of (passed key stops own es (rows ++ filter (goes_on stops own) queue)) ≡ sum_by moved_of es + (swept stops under own ts front rows done queue).made
@@ -152,7 +152,7 @@ module _ {X : Type 0} (key : X → ℕ) (stops : X → Bool) where
   abbrev Begins : List X → List X → Type 0
   Begins rows done = (rows ≡ []) ⊎ (done ≡ [])
 
-  ends : (under own : X → Bool) (front rows done queue : List X) (pre : List (Event X)) → Begins rows done → Are own pre (done ++ queue) → Leaves under own [] [] front rows done queue pre
+  ends : (under own : X → Bool) (front rows done queue : List X) (pre : List (CarryState X)) → Begins rows done → Are own pre (done ++ queue) → Leaves under own [] [] front rows done queue pre
   ends under own front rows done queue pre begins are =
       let g = goes_on stops own in
       record {
@@ -169,17 +169,17 @@ module _ {X : Type 0} (key : X → ℕ) (stops : X → Bool) where
   by-step under own t ts front (y ∷ ys) done queue off = rw off refl
 
   -- a row that doesn't turn the piece is passed
-  aside : (under own : X → Bool) (e f : Event X) (es : List (Event X)) (t : X) (ts front rows done queue : List X) (pre : List (Event X)) → goes_on stops under t ≡ false → left_after key stops own (e ∷ es) (rows ++ filter (goes_on stops own) queue) ≡ left_after key stops own es (rows ++ filter (goes_on stops own) (queue ++ t ∷ [])) → passed key stops own (e ∷ es) (rows ++ filter (goes_on stops own) queue) ≡ f ∷ passed key stops own es (rows ++ filter (goes_on stops own) (queue ++ t ∷ [])) → moved_of f ≡ moved_of e → Leaves under own es ts front rows done (queue ++ t ∷ []) (pre ++ f ∷ []) → Leaves under own (e ∷ es) (t ∷ ts) front rows done queue pre
+  aside : (under own : X → Bool) (e f : CarryState X) (es : List (CarryState X)) (t : X) (ts front rows done queue : List X) (pre : List (CarryState X)) → goes_on stops under t ≡ false → left_after key stops own (e ∷ es) (rows ++ filter (goes_on stops own) queue) ≡ left_after key stops own es (rows ++ filter (goes_on stops own) (queue ++ t ∷ [])) → passed key stops own (e ∷ es) (rows ++ filter (goes_on stops own) queue) ≡ f ∷ passed key stops own es (rows ++ filter (goes_on stops own) (queue ++ t ∷ [])) → moved_of f ≡ moved_of e → Leaves under own es ts front rows done (queue ++ t ∷ []) (pre ++ f ∷ []) → Leaves under own (e ∷ es) (t ∷ ts) front rows done queue pre
   aside under own e f es t ts front rows done queue pre off lefts ons same rest =
       let step = by-step under own t ts front rows done queue off in
-      let on : List (Event X) = passed key stops own es (rows ++ filter (goes_on stops own) (queue ++ t ∷ [])) in
+      let on : List (CarryState X) = passed key stops own es (rows ++ filter (goes_on stops own) (queue ++ t ∷ [])) in
       record {
         flat = rw (off, lefts, step) rest.flat;
         are = rw (ons, step) (rw (append_assoc pre (f ∷ []) on) at rest.are);
         made = rw (ons, step) (omega (arith, rest.made, same, sum_by-cons moved_of f on, sum_by-cons moved_of e es));
       }
 
-  leaves : (under own : X → Bool) → ((x : X) → under x ≡ true → own x ≡ true) → (es : List (Event X)) (ts front rows done queue : List X) (pre : List (Event X)) → All (λ y. own y ≡ true) rows → Begins rows done → Are under es ts → Are own pre (done ++ queue) → Leaves under own es ts front rows done queue pre
+  leaves : (under own : X → Bool) → ((x : X) → under x ≡ true → own x ≡ true) → (es : List (CarryState X)) (ts front rows done queue : List X) (pre : List (CarryState X)) → All (λ y. own y ≡ true) rows → Begins rows done → Are under es ts → Are own pre (done ++ queue) → Leaves under own es ts front rows done queue pre
   leaves under own sub [] [] front rows done queue pre mine begins are before = ends under own front rows done queue pre begins before
   leaves under own sub [] (t ∷ ts) front rows done queue pre mine begins are before = absurd are
   leaves under own sub (e ∷ es) [] front rows done queue pre mine begins are before = absurd are
@@ -217,7 +217,7 @@ module _ {X : Type 0} (key : X → ℕ) (stops : X → Bool) where
       let once = turn own t done queue pre moved is lasts before in
       let r : Round X = round stops own t done queue in
       let rest = leaves under own sub es ts front [] r.done r.queue (pre ++ turns (moved + r.made) ∷ []) mine (inl refl) are.1 (once.are (turns (moved + r.made)) (moved + r.made) refl) in
-      let on : List (Event X) = passed key stops own es (filter g r.queue) in
+      let on : List (CarryState X) = passed key stops own es (filter g r.queue) in
       let shape : (front ++ filter g done) ++ t ∷ (filter (goes_on stops under) ts ++ left_after key stops own es (filter g r.queue)) ≡ (front ++ filter g r.done) ++ (filter (goes_on stops under) ts ++ left_after key stops own es (filter g r.queue)) =
       sym (append_assoc (front ++ filter g done) (t ∷ []) (filter (goes_on stops under) ts ++ left_after key stops own es (filter g r.queue))) ∙ ap (λ zs. zs ++ (filter (goes_on stops under) ts ++ left_after key stops own es (filter g r.queue))) (append_assoc front (filter g done) (t ∷ []) ∙ ap (λ zs. front ++ zs) (sym once.done_is)) in
       record {
@@ -239,7 +239,7 @@ module _ {X : Type 0} (key : X → ℕ) (stops : X → Bool) where
             let before_on : Are own (pre ++ stopped (suc moved) y ∷ []) (done ++ (queue ++ y ∷ [])) = rw (append_assoc done queue (y ∷ [])) at (Are-push own pre (done ++ queue) (stopped (suc moved) y) y before (refl, stop)) in
             let rest = leaves under own sub es ts (front ++ t ∷ []) ys done (queue ++ y ∷ []) (pre ++ stopped (suc moved) y ∷ []) others (inr none) are.1 before_on in
             let shape : ys ++ filter g queue ≡ ys ++ filter g (queue ++ y ∷ []) = rw (filter-push g queue y, off, append-nil (filter g queue)) refl in
-            let on : List (Event X) = passed key stops own es (ys ++ filter g (queue ++ y ∷ [])) in
+            let on : List (CarryState X) = passed key stops own es (ys ++ filter g (queue ++ y ∷ [])) in
             let flat_on : ((front ++ filter g done) ++ t ∷ (filter (goes_on stops under) ts ++ left_after key stops own es (ys ++ filter g (queue ++ y ∷ [])))) ≡ ((front ++ t ∷ []) ++ filter g done) ++ (filter (goes_on stops under) ts ++ left_after key stops own es (ys ++ filter g (queue ++ y ∷ []))) = rw (none, append-nil front, append-nil (front ++ t ∷ [])) (sym (append_assoc front (t ∷ []) (filter (goes_on stops under) ts ++ left_after key stops own es (ys ++ filter g (queue ++ y ∷ []))))) in
             record {
               flat = rw (are.0, stop, shape) (flat_on ∙ rest.flat);
@@ -251,7 +251,7 @@ module _ {X : Type 0} (key : X → ℕ) (stops : X → Bool) where
             let before_on : Are own (pre ++ turns (suc moved) ∷ []) (done ++ (queue ++ y ∷ [])) = rw (append_assoc done queue (y ∷ [])) at (Are-push own pre (done ++ queue) (turns (suc moved)) y before on_it) in
             let rest = leaves under own sub es ts (front ++ t ∷ []) ys done (queue ++ y ∷ []) (pre ++ turns (suc moved) ∷ []) others (inr none) are.1 before_on in
             let shape : (ys ++ filter g queue) ++ y ∷ [] ≡ ys ++ filter g (queue ++ y ∷ []) = append_assoc ys (filter g queue) (y ∷ []) ∙ rw (filter-push g queue y, on_it) refl in
-            let on : List (Event X) = passed key stops own es (ys ++ filter g (queue ++ y ∷ [])) in
+            let on : List (CarryState X) = passed key stops own es (ys ++ filter g (queue ++ y ∷ [])) in
             let flat_on : ((front ++ filter g done) ++ t ∷ (filter (goes_on stops under) ts ++ left_after key stops own es (ys ++ filter g (queue ++ y ∷ [])))) ≡ ((front ++ t ∷ []) ++ filter g done) ++ (filter (goes_on stops under) ts ++ left_after key stops own es (ys ++ filter g (queue ++ y ∷ []))) = rw (none, append-nil front, append-nil (front ++ t ∷ [])) (sym (append_assoc front (t ∷ []) (filter (goes_on stops under) ts ++ left_after key stops own es (ys ++ filter g (queue ++ y ∷ []))))) in
             record {
               flat = rw (are.0, lasts, shape) (flat_on ∙ rest.flat);
@@ -261,7 +261,7 @@ module _ {X : Type 0} (key : X → ℕ) (stops : X → Bool) where
       ]
 
   -- as many arrive at the next piece as go on from this one
-  count-arriving : (own : X → Bool) (es : List (Event X)) (ts : List X) → Are own es ts → arriving es ≡ count_by (goes_on stops own) ts
+  count-arriving : (own : X → Bool) (es : List (CarryState X)) (ts : List X) → Are own es ts → arriving es ≡ count_by (goes_on stops own) ts
   count-arriving own [] [] are = refl
   count-arriving own [] (t ∷ ts) are = absurd are
   count-arriving own (e ∷ es) [] are = absurd are
@@ -279,13 +279,13 @@ module _ {X : Type 0} (key : X → ℕ) (stops : X → Bool) where
       count-arriving own es ts are.1 ∙ sym (sum_by-cons (λ z. cond {A = ℕ} (goes_on stops own z) 1 0) t ts ∙ rw off (omega arith))
 
   -- all pieces afterwards, and the rows that came in
-  pub record AreSwept (low : ℕ) (es : List (Event X)) (ts : List X) (pieces : Pieces X) : Type 0 where
+  pub record AreSwept (low : ℕ) (es : List (CarryState X)) (ts : List X) (pieces : Pieces X) : Type 0 where
     pub flat : filter (goes_on stops (is_lower key stops low)) ts ++ column_of (in_bulk key stops es pieces) ≡ (swept_up key stops low ts pieces).piece ++ filter (goes_on stops (any_row key stops)) (swept_up key stops low ts pieces).tail
     pub are : Are (any_row key stops) (bulk_outcomes key stops es pieces) (swept_up key stops low ts pieces).tail
     pub made : sum_by moved_of (bulk_outcomes key stops es pieces) ≡ sum_by moved_of es + (swept_up key stops low ts pieces).made
     pub marks : (place : ℕ) → marks_up key stops place es pieces ≡ swept_marks key stops place low ts pieces
 
-  pub AreSwept-of : (low : ℕ) (es : List (Event X)) (ts : List X) (pieces : Pieces X) → AreDivided key low pieces → Are (is_lower key stops low) es ts → AreSwept low es ts pieces
+  pub AreSwept-of : (low : ℕ) (es : List (CarryState X)) (ts : List X) (pieces : Pieces X) → AreDivided key low pieces → Are (is_lower key stops low) es ts → AreSwept low es ts pieces
   AreSwept-of low es ts (last rows) divided are =
       let own = any_row key stops in
       let one = leaves (is_lower key stops low) own (λ x under. refl) es ts [] rows [] [] [] (λ k d h. refl) (inr refl) are tt in
@@ -302,7 +302,7 @@ module _ {X : Type 0} (key : X → ℕ) (stops : X → Bool) where
       let one = leaves (is_lower key stops low) own sub es ts [] rows [] [] [] (λ k d h. lt-ltb (key _) bound.0 (divided.0 k d h).1) (inr refl) are tt in
       let same = append-nil rows in
       let here : Swept X = swept_by key stops low own ts rows in
-      let on : List (Event X) = passed key stops own es rows in
+      let on : List (CarryState X) = passed key stops own es rows in
       let are_on : Are own on here.tail = rw same at one.are in
       let flat_on : filter (goes_on stops (is_lower key stops low)) ts ++ left_after key stops own es rows ≡ here.piece ++ filter (goes_on stops own) here.tail = rw same at one.flat in
       let made_on : sum_by moved_of on ≡ sum_by moved_of es + here.made = rw same at one.made in
@@ -327,7 +327,7 @@ module _ {X : Type 0} (key : X → ℕ) (stops : X → Bool) where
       rw off (none-lower xs)
 
   -- at the end each carry has reached its piece, and if it has ended with a row in hand, that row represents it
-  all_come : (es : List (Event X)) (ts : List X) → Are (any_row key stops) es ts → All HasCome es × (hands_of es ≡ filter stops ts)
+  all_come : (es : List (CarryState X)) (ts : List X) → Are (any_row key stops) es ts → All HasCome es × (hands_of es ≡ filter stops ts)
   all_come [] [] are = (All-nil HasCome, refl)
   all_come [] (t ∷ ts) are = absurd are
   all_come (e ∷ es) [] are = absurd are
@@ -359,7 +359,7 @@ module _ {X : Type 0} (key : X → ℕ) (stops : X → Bool) where
 
   pub AllSwept-coming : (xs : List X) (pieces : Pieces X) → AreDivided key 0 pieces → All Goes xs → AllSwept xs pieces
   AllSwept-coming xs pieces divided coming =
-      let es : List (Event X) = map comes xs in
+      let es : List (CarryState X) = map comes xs in
       let all = AreSwept-of 0 es xs pieces divided (Are-coming xs coming) in
       let end = all_come (bulk_outcomes key stops es pieces) (swept_up key stops 0 xs pieces).tail all.are in
       let first : 0 + arriving es ≡ 0 = omega (arith, none-arrive xs) in

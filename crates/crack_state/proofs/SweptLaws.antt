@@ -14,7 +14,7 @@ use Rattle.crack_state.specs.Merge.{outside_of}
 use Rattle.crack_state.proofs.OwnedLaws.{times-places, once-most}
 use Rattle.crack_state.specs.Pieces.{column_of, marks_of}
 use Rattle.crack_state.specs.Queues.{comes, any_row, in_bulk, bulk_outcomes}
-use Rattle.crack_state.specs.Carried.{pieces_of, is_doomed, ends_with, moved_by, inside_of, put_in_by, arrivals, carried_in_bulk}
+use Rattle.crack_state.specs.Carried.{pieces_of, is_doomed, ends_with, moved_by, inside_of, insertions_by, arrivals, carried_in_bulk}
 use Rattle.crack_state.specs.Pulled.{buried_all}
 use Rattle.crack_state.specs.Sweeps.{Swept, goes_on}
 use Rattle.crack_state.proofs.SweptUp.{swept_up, swept_marks}
@@ -45,7 +45,7 @@ module _ (r : Range) (s : State) (intact : IsIntact s []) where
     column = sweep.piece ++ filter (goes_on stops (any_row key stops)) sweep.tail;
     marks = swept_marks key stops 0 0 rows_in (pieces_of s);
     pending_in = outside_of s.cells r s.pending_in;
-    tally = moved_by sweep.made (put_in_by (length rows_in) s.tally);
+    tally = moved_by sweep.made (insertions_by (length rows_in) s.tally);
   }
 
   doomed-stops : (h : Handle) → stops h ≡ true → is_doomed s h ≡ true
@@ -106,7 +106,7 @@ module _ (r : Range) (s : State) (intact : IsIntact s []) where
         column = column_of pieces;
         marks = marks_of 0 pieces;
         pending_in = outside_of s.cells r s.pending_in;
-        tally = put_in_by (length (arrivals r s)) s.tally;
+        tally = insertions_by (length (arrivals r s)) s.tally;
       } in
       let apart : AreBuried (filter stops sweep.tail) s.cells s.pending_out = AreBuried-apart (filter stops sweep.tail) s.cells s.pending_out hands-apart in
       let ended = ended_by-buried (bulk_outcomes key stops (arrivals r s) (pieces_of s)) before all.come (rw all.hands apart) intact.counted.moved in

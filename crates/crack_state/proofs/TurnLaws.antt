@@ -7,7 +7,7 @@ use Rattle.std.proofs.lemmas.Nat.{div-add-mod', mod_below}
 use Rattle.std.proofs.lemmas.List.Elements.{All-head, All-tail}
 use Rattle.crack_index.specs.declared.mark.Mark.{Mark}
 use Rattle.crack_state.specs.Pieces.{Pieces, last, below, marks_of}
-use Rattle.crack_state.specs.Queues.{Event, comes, turns, stopped, is_below, left_after, passed, in_bulk}
+use Rattle.crack_state.specs.Queues.{CarryState, comes, turns, stopped, is_below, left_after, passed, in_bulk}
 use Rattle.crack_column.specs.Sifts.{turned_once, queued}
 use Rattle.crack_state.proofs.PieceMarkLaws.{mark_at}
 
@@ -69,7 +69,7 @@ module _ {X : Type 0} where
       ap (λ b. queued key low (run ++ xs) (cond b (turned_once rows) (rows ++ x ∷ []))) under ∙ queued-run key low run xs (turned_once rows) (All-tail (λ y. key y < low) x run all)
 
 -- how many of the carries reach a piece from below
-abbrev pub arriving : {X : Type 0} → List (Event X) → ℕ
+abbrev pub arriving : {X : Type 0} → List (CarryState X) → ℕ
 arriving [] = 0
 arriving (comes x ∷ es) = arriving es
 arriving (turns moved ∷ es) = suc (arriving es)
@@ -77,14 +77,14 @@ arriving (stopped moved y ∷ es) = arriving es
 
 module _ {X : Type 0} (key : X → ℕ) (stops : X → Bool) where
   -- the marks of pieces, each moved up by as many carries as reach the piece above it
-  abbrev pub marks_up : ℕ → List (Event X) → Pieces X → List Mark
+  abbrev pub marks_up : ℕ → List (CarryState X) → Pieces X → List Mark
   marks_up place es (last rows) = []
   marks_up place es (below rows bound pieces) =
       let on = passed key stops (is_below key stops bound) es rows in
       mark_at bound (place + length rows + arriving on) ∷ marks_up (place + length rows) on pieces
 
   -- a piece has as many rows more as carries go on from it that didn't come from below
-  length-left : (own : X → Bool) (es : List (Event X)) (rows : List X) → length (left_after key stops own es rows) + arriving es ≡ length rows + arriving (passed key stops own es rows)
+  length-left : (own : X → Bool) (es : List (CarryState X)) (rows : List X) → length (left_after key stops own es rows) + arriving es ≡ length rows + arriving (passed key stops own es rows)
   length-left own [] rows = refl
   length-left own (comes x ∷ es) rows = elim (cases_Bool (own x)) [
     | inl is ↦ rw is (omega (arith, length-left own es (rows ++ x ∷ []), length_push rows x))
@@ -97,10 +97,10 @@ module _ {X : Type 0} (key : X → ℕ) (stops : X → Bool) where
   ]
   length-left own (stopped moved y ∷ es) rows = length-left own es rows
 
-  pub marks_of-in_bulk : (place : ℕ) (es : List (Event X)) (pieces : Pieces X) → marks_of (place + arriving es) (in_bulk key stops es pieces) ≡ marks_up place es pieces
+  pub marks_of-in_bulk : (place : ℕ) (es : List (CarryState X)) (pieces : Pieces X) → marks_of (place + arriving es) (in_bulk key stops es pieces) ≡ marks_up place es pieces
   marks_of-in_bulk place es (last rows) = refl
   marks_of-in_bulk place es (below rows bound pieces) =
       let own = is_below key stops bound in
-      let on : List (Event X) = passed key stops own es rows in
+      let on : List (CarryState X) = passed key stops own es rows in
       let size : (place + arriving es) + length (left_after key stops own es rows) ≡ (place + length rows) + arriving on = omega (arith, length-left own es rows) in
       rw (size, marks_of-in_bulk (place + length rows) on pieces) refl

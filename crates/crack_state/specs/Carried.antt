@@ -10,7 +10,7 @@ use Rattle.crack_state.specs.State.{State, Carried, greatest}
 use Rattle.crack_state.specs.Steps.{buried, returned}
 use Rattle.crack_state.specs.Merge.{outside_of}
 use Rattle.crack_state.specs.Pieces.{Pieces, column_of, marks_of, cut}
-use Rattle.crack_state.specs.Queues.{Event, comes, turns, stopped, in_bulk, bulk_outcomes}
+use Rattle.crack_state.specs.Queues.{CarryState, comes, turns, stopped, in_bulk, bulk_outcomes}
 
 -- the pieces of a store's column
 abbrev pub pieces_of : State → Pieces Handle
@@ -47,7 +47,7 @@ carried_with s column marks moved hand =
 
 -- the store after the outcome of a carry, except its column, its marks and its room: rows moved, and a hand that
 -- ended the carry is buried if it is doomed, otherwise evicted
-abbrev pub ended_so : Event Handle → State → State
+abbrev pub ended_so : CarryState Handle → State → State
 ended_so (comes x) s = s
 ended_so (turns moved) s = record s { tally = moved_by moved s.tally }
 ended_so (stopped moved hand) s =
@@ -55,7 +55,7 @@ ended_so (stopped moved hand) s =
     record (cond (is_doomed s hand) (buried c) (returned c)) { in_room = s.in_room }
 
 -- the store after these outcomes of carries, in order
-abbrev pub ended_by : List (Event Handle) → State → State
+abbrev pub ended_by : List (CarryState Handle) → State → State
 ended_by [] s = s
 ended_by (e ∷ es) s = ended_by es (ended_so e s)
 
@@ -64,11 +64,11 @@ abbrev pub inside_of : List (Cell Row) → Range → List Handle → List Handle
 inside_of cells r hs = filter (λ h. is_in r (key_at cells h)) hs
 
 -- the tally with this many more rows put in, up to the greatest number of a counter
-abbrev pub put_in_by : ℕ → MergeReport → MergeReport
-put_in_by count tally = record tally { put_in = min (tally.put_in + count) greatest }
+abbrev pub insertions_by : ℕ → MergeReport → MergeReport
+insertions_by count tally = record tally { insertions = min (tally.insertions + count) greatest }
 
 -- the pending insertions in a range, in order, each as the event by which it reaches the lowest piece
-abbrev pub arrivals : Range → State → List (Event Handle)
+abbrev pub arrivals : Range → State → List (CarryState Handle)
 arrivals r s = map comes (inside_of s.cells r s.pending_in)
 
 -- the store after all carries of a range, except its room: each piece is as the rows that reach it leave it, each
@@ -82,5 +82,5 @@ carried_in_bulk ceiling r s =
       column = column_of pieces;
       marks = marks_of 0 pieces;
       pending_in = outside_of s.cells r s.pending_in;
-      tally = put_in_by (length (arrivals r s)) s.tally;
+      tally = insertions_by (length (arrivals r s)) s.tally;
     })

@@ -9,7 +9,7 @@ use Rattle.crack_arena.specs.Rows.{key_at}
 use Rattle.crack_index.specs.declared.mark.Mark.{Mark}
 use Rattle.crack_state.specs.State.{State}
 use Rattle.crack_state.specs.Pieces.{Pieces, column_of, marks_of, cut}
-use Rattle.crack_state.specs.Carried.{inside_of, put_in_by}
+use Rattle.crack_state.specs.Carried.{inside_of, insertions_by}
 use Rattle.crack_state.specs.Pulled.{pulled, all_drawn, itself, pulled_by, buried_all}
 
 -- the handles without the first `n` of those whose key is in the range
@@ -34,7 +34,7 @@ filled_from low edge high ds fs left s =
       column = column_of pieces ++ (reverse fs ++ drop edge.position s.column);
       marks = marks_of 0 pieces ++ record edge { position = edge.position - length ds } ∷ high;
       pending_in = left;
-      tally = put_in_by (length fs) (pulled_by count s.tally);
+      tally = insertions_by (length fs) (pulled_by count s.tally);
     })
 
 -- the first pulls of a range began with fillers, in order of arrival, until no doomed row of the range or no filler

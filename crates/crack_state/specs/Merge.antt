@@ -170,8 +170,8 @@ pub record Merges (policy : Policy) (s t : State) (r : Range) : Type 0 where
 -- the difference of two reports, counter by counter
 abbrev pub counted_between : MergeReport → MergeReport → MergeReport
 counted_between before after = record {
-  put_in = after.put_in - before.put_in;
-  taken_out = after.taken_out - before.taken_out;
+  insertions = after.insertions - before.insertions;
+  deletions = after.deletions - before.deletions;
   evicted = after.evicted - before.evicted;
   moved = after.moved - before.moved;
   pulled = after.pulled - before.pulled;
@@ -185,15 +185,15 @@ IsExact tally = EachCounter (λ n same. n < greatest) tally tally
 -- pending insertions, the rows taken out have left the pending deletions, the rows put in moved at most q rows
 -- each on average, and the rows taken out pulled at most q each on average
 pub record Counts (s t : State) (q : ℕ) : Type 0 where
-  pub put_in : t.tally.put_in + length t.pending_in + s.tally.evicted ≡ s.tally.put_in + length s.pending_in + t.tally.evicted
-  pub taken_out : t.tally.taken_out + length t.pending_out ≡ s.tally.taken_out + length s.pending_out
-  pub moved : t.tally.moved + s.tally.put_in * q ≤ s.tally.moved + t.tally.put_in * q
-  pub pulled : t.tally.pulled + s.tally.taken_out * q ≤ s.tally.pulled + t.tally.taken_out * q
+  pub insertions : t.tally.insertions + length t.pending_in + s.tally.evicted ≡ s.tally.insertions + length s.pending_in + t.tally.evicted
+  pub deletions : t.tally.deletions + length t.pending_out ≡ s.tally.deletions + length s.pending_out
+  pub moved : t.tally.moved + s.tally.insertions * q ≤ s.tally.moved + t.tally.insertions * q
+  pub pulled : t.tally.pulled + s.tally.deletions * q ≤ s.tally.pulled + t.tally.deletions * q
 
 -- what a policy may have evicted: complete and gradual nothing, ripple at most as many rows as it put in, if every
 -- counter is exact
 abbrev pub MayEvict : Policy → State → State → Type 0
-MayEvict Ripple s t = IsExact t.tally → t.tally.evicted + s.tally.put_in ≤ s.tally.evicted + t.tally.put_in
+MayEvict Ripple s t = IsExact t.tally → t.tally.evicted + s.tally.insertions ≤ s.tally.evicted + t.tally.insertions
 MayEvict _ s t = t.tally.evicted ≡ s.tally.evicted
 
 -- what a merge of this policy counts: no counter falls, and the counts are right unless a counter has reached its

@@ -4,13 +4,13 @@ use Rattle.crack_row.specs.declared.InnerBound.{InnerBound}
 use Rattle.crack_state.specs.Pieces.{Pieces, last, below}
 
 -- the state of a carry when it reaches a piece
-pub data Event (X : Type 0) : Type 0 where
+pub data CarryState (X : Type 0) : Type 0 where
   -- the incoming row is in hand, and its own piece is this one or a higher one
-  comes : X → Event X
+  comes : X → CarryState X
   -- the row in hand is from a lower piece, and this many rows have moved
-  turns : ℕ → Event X
+  turns : ℕ → CarryState X
   -- the carry has ended in a lower piece, with this row in hand, after this many rows moved
-  stopped : ℕ → X → Event X
+  stopped : ℕ → X → CarryState X
 
 -- `key` of each row, and whether a carry ends with it in hand: it is doomed, or at or above a ceiling
 module _ {X : Type 0} (key : X → ℕ) (stops : X → Bool) where
@@ -28,38 +28,38 @@ module _ {X : Type 0} (key : X → ℕ) (stops : X → Bool) where
   after_turn (y ∷ ys) = cond (stops y) ys (ys ++ y ∷ [])
 
   -- the state of a carry after it turned a piece with these rows; `moved` rows had moved before
-  abbrev pub onward : ℕ → List X → Event X
+  abbrev pub onward : ℕ → List X → CarryState X
   onward moved [] = turns moved
   onward moved (y ∷ ys) = cond (stops y) (stopped (suc moved) y) (turns (suc moved))
 
   -- the piece after an event; `own` is whether a row is in this piece or in a lower one
-  abbrev pub after_event : (X → Bool) → Event X → List X → List X
+  abbrev pub after_event : (X → Bool) → CarryState X → List X → List X
   after_event own (comes x) rows = cond (own x) (rows ++ x ∷ []) rows
   after_event own (turns moved) rows = after_turn rows
   after_event own (stopped moved y) rows = rows
 
   -- the event that reaches the next piece, after this event reached a piece with these rows
-  abbrev pub next : (X → Bool) → Event X → List X → Event X
+  abbrev pub next : (X → Bool) → CarryState X → List X → CarryState X
   next own (comes x) rows = cond (own x) (turns 0) (comes x)
   next own (turns moved) rows = onward moved rows
   next own (stopped moved y) rows = stopped moved y
 
   -- the piece after all events that reach it
-  abbrev pub left_after : (X → Bool) → List (Event X) → List X → List X
+  abbrev pub left_after : (X → Bool) → List (CarryState X) → List X → List X
   left_after own [] rows = rows
   left_after own (e ∷ es) rows = left_after own es (after_event own e rows)
 
   -- the events that reach the next piece, after these events reached a piece with these rows, in order
-  abbrev pub passed : (X → Bool) → List (Event X) → List X → List (Event X)
+  abbrev pub passed : (X → Bool) → List (CarryState X) → List X → List (CarryState X)
   passed own [] rows = []
   passed own (e ∷ es) rows = next own e rows ∷ passed own es (after_event own e rows)
 
   -- the pieces, each after all events that reach it
-  abbrev pub in_bulk : List (Event X) → Pieces X → Pieces X
+  abbrev pub in_bulk : List (CarryState X) → Pieces X → Pieces X
   in_bulk es (last rows) = last (left_after any_row es rows)
   in_bulk es (below rows bound pieces) = below (left_after (is_below bound) es rows) bound (in_bulk (passed (is_below bound) es rows) pieces)
 
   -- the events that leave the last piece: the outcomes of the carries
-  abbrev pub bulk_outcomes : List (Event X) → Pieces X → List (Event X)
+  abbrev pub bulk_outcomes : List (CarryState X) → Pieces X → List (CarryState X)
   bulk_outcomes es (last rows) = passed any_row es rows
   bulk_outcomes es (below rows bound pieces) = bulk_outcomes (passed (is_below bound) es rows) pieces

@@ -76,8 +76,8 @@ greatest = 2 ^ 64 - 1
 
 -- `R` relates each counter of one report to the same counter of the other
 pub record EachCounter (R : ℕ → ℕ → Type 0) (before after : MergeReport) : Type 0 where
-  pub put_in : R before.put_in after.put_in
-  pub taken_out : R before.taken_out after.taken_out
+  pub insertions : R before.insertions after.insertions
+  pub deletions : R before.deletions after.deletions
   pub evicted : R before.evicted after.evicted
   pub moved : R before.moved after.moved
   pub pulled : R before.pulled after.pulled

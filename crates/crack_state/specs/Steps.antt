@@ -64,7 +64,7 @@ lifted i s =
     record {
       store = record s {
         pending_in = remove s.pending_in i;
-        tally = record s.tally { put_in = more s.tally.put_in };
+        tally = record s.tally { insertions = more s.tally.insertions };
       };
       hand = slice_index_or s.pending_in i no_handle;
     }
@@ -110,7 +110,7 @@ all_appended s =
     record s {
       column = s.column ++ s.pending_in;
       pending_in = [];
-      tally = record s.tally { put_in = min (s.tally.put_in + length s.pending_in) greatest };
+      tally = record s.tally { insertions = min (s.tally.insertions + length s.pending_in) greatest };
     }
 
 -- bury: the hand, which is doomed, is removed from the pending deletions, and its cell is freed
@@ -120,16 +120,16 @@ buried c =
       cells = slice_set c.store.cells c.hand.slot (record { generation = c.hand.generation + 1; value = None });
       free = c.hand.slot ∷ c.store.free;
       pending_out = remove c.store.pending_out (place_in c.store.pending_out c.hand.slot);
-      tally = record c.store.tally { taken_out = more c.store.tally.taken_out };
+      tally = record c.store.tally { deletions = more c.store.tally.deletions };
     }
 
 -- the handle of the cell that the next row gets
 abbrev pub next_handle : State → Handle
 next_handle s = handle_for s.cells s.free
 
--- admit: a row in a new cell is appended to the pending insertions
-abbrev pub admitted : Row → State → State
-admitted row s =
+-- insert: a row in a new cell is appended to the pending insertions
+abbrev pub row_inserted : Row → State → State
+row_inserted row s =
     record s {
       cells = cells_with row s.cells s.free;
       free = drop 1 s.free;
@@ -138,9 +138,9 @@ admitted row s =
       in_room = s.in_room - 1;
     }
 
--- a row may be admitted: its serial isn't in the map, its key is the partition's, and a cell is free or one more
+-- a row may be inserted: its serial isn't in the map, its key is the partition's, and a cell is free or one more
 -- may be made
-pub record IsAdmissible (row : Row) (s : State) : Type 0 where
+pub record IsInsertable (row : Row) (s : State) : Type 0 where
   pub fresh : handle_of s.serials row.serial.0 ≡ None
   pub within : IsIn s.keys row.key.0
   pub cell : length s.cells < MOST_CELLS + length s.free

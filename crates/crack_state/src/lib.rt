@@ -9,9 +9,9 @@
 #[derive(Clone, Copy, PartialEq, Eq, Debug)]
 pub struct MergeReport {
     /// Pending insertions that were taken into the hand.
-    pub put_in: u64,
+    pub insertions: u64,
     /// Doomed rows (with a pending deletion) whose cells were freed.
-    pub taken_out: u64,
+    pub deletions: u64,
     /// Rows that went from the hand back to the pending insertions.
     pub evicted: u64,
     /// Rows that the hand replaced on its way up.

@@ -6,24 +6,24 @@ use denote.Model.Marks.{tied_send}
 use denote.Param.Send.{IsSend, sendable, view_send}
 use Rattle.std.proofs.Crossing.{crosses}
 use Rattle.crack_index.specs.contracts.index.CrackerIndex as CrackerIndex
-use Rattle.crack_index.specs.contracts.tree.Node as Node
-use Rattle.crack_index.specs.contracts.tree.Node.TheKnot as knot
-use Rattle.crack_index.specs.declared.tree.Node as declared
-use Rattle.crack_index.specs.declared.tree.Node.TheDeep as deep
-use Rattle.crack_index.specs.declared.tree.Node.TheView as seen
+use Rattle.crack_index.specs.contracts.tree.MarkNode as MarkNode
+use Rattle.crack_index.specs.contracts.tree.MarkNode.TheKnot as knot
+use Rattle.crack_index.specs.declared.tree.MarkNode as declared
+use Rattle.crack_index.specs.declared.tree.MarkNode.TheDeep as deep
+use Rattle.crack_index.specs.declared.tree.MarkNode.TheView as seen
 
-level-send : (p : Parts knot.frame) → IsSend (rows knot.frame p deep.member-Node) → IsSend (knot.at-Node p)
+level-send : (p : Parts knot.frame) → IsSend (rows knot.frame p deep.member-MarkNode) → IsSend (knot.at-MarkNode p)
 level-send p h = search (sendable, crosses) depth 20
 
 keeps-send : (p : Parts knot.frame) → ((j : deep.the_members) → IsSend (rows knot.frame p j)) → (i : deep.the_members) → IsSend (rows knot.frame (knot.step p) i)
-keeps-send p h deep.member-Node =
-    let R = View (knot.at-Node p) declared.Node declared.the_code seen.view seen.invariant in
-    has_of knot.frame send (knot.step p) deep.member-Node (part_has send R (view_send (knot.at-Node p) declared.Node declared.the_code seen.view seen.invariant (level-send p (h deep.member-Node))))
+keeps-send p h deep.member-MarkNode =
+    let R = View (knot.at-MarkNode p) declared.MarkNode declared.the_code seen.view seen.invariant in
+    has_of knot.frame send (knot.step p) deep.member-MarkNode (part_has send R (view_send (knot.at-MarkNode p) declared.MarkNode declared.the_code seen.view seen.invariant (level-send p (h deep.member-MarkNode))))
 
-hole-send : IsSend knot.hole-Node
-hole-send = tied_send knot.frame knot.step knot.sizes keeps-send deep.member-Node
+hole-send : IsSend knot.hole-MarkNode
+hole-send = tied_send knot.frame knot.step knot.sizes keeps-send deep.member-MarkNode
 
-node-send : IsSend Node.the_row
+node-send : IsSend MarkNode.the_row
 node-send = let h = hole-send in search (sendable, crosses) depth 20
 
 pub index-send : IsSend CrackerIndex.the_row

@@ -1,6 +1,6 @@
 mod NextLemmas
 mod EdgeLemmas
-mod AdmitLemmas
+mod InsertLemmas
 mod RunLemmas
 mod RoomLemmas
 mod CoarsenLemmas

@@ -10,7 +10,7 @@ use Rattle.crack_state.specs.State.{State, IsIntact}
 use Rattle.crack_state.specs.Steps.{next_handle}
 use Rattle.crack_state.proofs.OwnedLaws.{apart_from_times}
 use Rattle.crack_state.proofs.CellLaws.{AgreeOff, read-off}
-use Rattle.crack_state.proofs.AdmitLaws.{filled, unused, read-new}
+use Rattle.crack_state.proofs.InsertLaws.{filled, unused, read-new}
 use Rattle.crack_store.specs.declared.inside.Inside.{Inside}
 use Rattle.crack_store.specs.declared.notes.Notes.{Notes}
 use Rattle.crack_store.specs.Inside.{lists_of}
@@ -22,9 +22,9 @@ Remembers-off n cells after hs remembered agree none remembers = record {
   right = λ k d h. rw (read-off n cells after (get_or hs k d) agree (apart_from_times hs n none k d h)) (remembers.right k d h);
 }
 
--- a row is admitted
-pub Remembers-admitted : (row : Row) (s : State) (remembered : List Memory) → IsIntact s [] → Remembers s.cells s.column remembered → Remembers (cells_with row s.cells s.free) s.column remembered
-Remembers-admitted row s remembered intact remembers =
+-- a row is inserted
+pub Remembers-row_inserted : (row : Row) (s : State) (remembered : List Memory) → IsIntact s [] → Remembers s.cells s.column remembered → Remembers (cells_with row s.cells s.free) s.column remembered
+Remembers-row_inserted row s remembered intact remembers =
     Remembers-off (next_handle s).slot s.cells (cells_with row s.cells s.free) s.column remembered (filled s row s.free refl intact.owned).others (unused s s.free refl intact.owned).column remembers
 
 -- if a step leaves the cells and the pending lists alone, what is remembered of these stays right
@@ -50,7 +50,7 @@ memory-read cells h row reads = rw reads refl
 pub memory_at-off : (n : ℕ) (cells after : List (Cell Row)) (h : Handle) → AgreeOff n cells after → h.slot ≢ n → memory_at after h ≡ memory_at cells h
 memory_at-off n cells after h agree ne = rw (read-off n cells after h agree ne) refl
 
--- what is known of the cell of a row that is admitted
+-- what is known of the cell of a row that is inserted
 pub record Added (row : Row) (s : State) (h : Handle) : Type 0 where
   pub agree : AgreeOff h.slot s.cells (cells_with row s.cells s.free)
   pub memory : memory_of row ≡ memory_at (cells_with row s.cells s.free) h
@@ -58,7 +58,7 @@ pub record Added (row : Row) (s : State) (h : Handle) : Type 0 where
   pub off_in : times h.slot (slots s.pending_in) ≡ 0
   pub off_out : times h.slot (slots s.pending_out) ≡ 0
 
--- a row is admitted, whose cell no list names
+-- a row is inserted, whose cell no list names
 pub added : (row : Row) (s : State) → IsIntact s [] → (h : Handle) → h ≡ next_handle s → Added row s h
 added row s intact h is =
     let fill = filled s row s.free refl intact.owned in

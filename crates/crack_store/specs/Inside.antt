@@ -25,7 +25,7 @@ lists_of p = record {
 
 -- merge counts that are all 0
 abbrev pub no_report : MergeReport
-no_report = record { put_in = 0; taken_out = 0; evicted = 0; moved = 0; pulled = 0 }
+no_report = record { insertions = 0; deletions = 0; evicted = 0; moved = 0; pulled = 0 }
 
 -- an empty store: no cell and no bound
 abbrev pub no_cells : Range → ℕ → ℕ → State

@@ -1,5 +1,5 @@
 -- What private clauses alone cite.
--- A row of a run, and room for rows that are to be admitted.
+-- A row of a run, and room for rows that are to be inserted.
 use Rattle.std.specs.Prelude.{ℕ, ◌+◌, ◌-◌, ◌≤◌, ℤ, pos, List, length, slice_index_or}
 use Rattle.crack_row.specs.Rows.{row_with}
 use Rattle.crack_row.specs.declared.Row.{Row}

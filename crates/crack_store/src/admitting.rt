@@ -2,11 +2,11 @@
 ghost use Rattle.std.specs.Prelude.{◌≡◌, ◌+◌, ◌<◌, ◌≤◌, ◌^◌, ◌∷◌, ◌++◌, [], ℕ, suc, length, take, IfErr, OnOk};
 ghost use Rattle.std.specs.List.Sorted.{IsPermutation};
 ghost use Rattle.crack_state.specs.State.{live_rows};
-ghost use Rattle.crack_state.specs.Steps.{admitted, IsAdmissible, SameButRoom};
+ghost use Rattle.crack_state.specs.Steps.{row_inserted, IsInsertable, SameButRoom};
 ghost use Rattle.crack_store.specs.Inside.{lists_of};
 ghost use Rattle.crack_store.specs.Keeps.{KeepsIntact};
 ghost use Rattle.crack_store.specs.Rooms.{HasRooms, row_of_run};
-ghost use Rattle.crack_store.specs.Runs.{run_rows, all_admitted, AreAdmissible};
+ghost use Rattle.crack_store.specs.Runs.{run_rows, rows_inserted, AreInsertable};
 
 use crate::inside::Inside;
 use crack_arena::Remembered;
@@ -58,10 +58,10 @@ pub(crate) fn make_room_for_run(
 #[inline(always)]
 pub(crate) fn add_row(inside: &mut Inside, row: Row)
     requires kept { KeepsIntact inside.old [] }
-    requires admissible { IsAdmissible row (lists_of inside.old) }
+    requires insertable { IsInsertable row (lists_of inside.old) }
     requires room { HasRooms row.serial.0 1 inside.old }
     ensures kept { KeepsIntact inside.new [] }
-    ensures after { SameButRoom (admitted row (lists_of inside.old)) (lists_of inside.new) }
+    ensures after { SameButRoom (row_inserted row (lists_of inside.old)) (lists_of inside.new) }
     ensures live { IsPermutation (row ∷ live_rows (lists_of inside.old)) (live_rows (lists_of inside.new)) }
     ensures room { (count : ℕ) → HasRooms row.serial.0 (suc count) inside.old → HasRooms (suc row.serial.0) count
         inside.new }
@@ -83,11 +83,11 @@ pub(crate) fn add_rows(
 )
     requires kept { KeepsIntact inside.old [] }
     requires payloads { length payloads.now ≡ length keys.now }
-    requires admissible { AreAdmissible first.0 keys.now (lists_of inside.old) }
+    requires insertable { AreInsertable first.0 keys.now (lists_of inside.old) }
     requires serials { first.0 + length keys.now < 2 ^ 64 }
     requires room { HasRooms first.0 (length keys.now) inside.old }
     ensures kept { KeepsIntact inside.new [] }
-    ensures after { SameButRoom (all_admitted (take (length keys.now) (run_rows first.0 keys.now payloads.now))
+    ensures after { SameButRoom (rows_inserted (take (length keys.now) (run_rows first.0 keys.now payloads.now))
         (lists_of inside.old)) (lists_of inside.new) }
     ensures live { IsPermutation (take (length keys.now) (run_rows first.0 keys.now payloads.now) ++ live_rows
         (lists_of inside.old)) (live_rows (lists_of inside.new)) }

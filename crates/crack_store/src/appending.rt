@@ -44,7 +44,7 @@ impl Store {
         );
         self.inside.pending_in.clear();
         self.inside.pending_in.shrink_if_empty(self.inside.in_room);
-        self.inside.tally.put_in = self.inside.tally.put_in.saturating_add(count as u64);
+        self.inside.tally.insertions = self.inside.tally.insertions.saturating_add(count as u64);
         Ok(())
     }
 
@@ -61,7 +61,7 @@ impl Store {
         self.inside.column.adopt(rows, unread);
         self.inside.in_room = 0;
         self.inside.pending_in.shrink_if_empty(0);
-        self.inside.tally.put_in = self.inside.tally.put_in.saturating_add(adopted);
+        self.inside.tally.insertions = self.inside.tally.insertions.saturating_add(adopted);
     }
 }
 

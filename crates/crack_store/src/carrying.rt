@@ -48,7 +48,7 @@ impl Model for Carrying {
 
 impl Carrying {
     /// States the invariant of every store with a cell in hand, and does nothing.
-    pub fn facts(&self)
+    pub fn recall_invariant(&self)
         ensures { IsIntact self.now.store (self.now.hand ∷ []) }
     {
         let _ = &self.inside;

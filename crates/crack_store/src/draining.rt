@@ -164,7 +164,7 @@ pub(crate) fn bury_all(inside: &mut Inside, doomed: &[Doomed])
         let handle = doomed[i].handle;
         inside.pending_out.strike(handle);
         let _ = inside.arena.free(handle);
-        inside.tally.taken_out = inside.tally.taken_out.saturating_add(1);
+        inside.tally.deletions = inside.tally.deletions.saturating_add(1);
     }
     inside.pending_out.shrink_if_empty(0);
 }

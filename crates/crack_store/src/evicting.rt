@@ -167,7 +167,7 @@ fn carry_rows(
     inside.column = column;
     inside.tally.moved = moved.saturating_add(evicted as u64);
     inside.tally.evicted = inside.tally.evicted.saturating_add(evicted as u64);
-    inside.tally.put_in = inside.tally.put_in.saturating_add(count as u64);
+    inside.tally.insertions = inside.tally.insertions.saturating_add(count as u64);
 }
 
 /// Takes the rows of a range out of the pending insertions `rows`, and puts them, in order, into the column from

@@ -126,7 +126,7 @@ fn fill_rows(inside: &mut Inside, doomed: Vec<Doomed>, fillers: KeyRange, first:
         &inside.arena,
     );
     inside.pending_in.shrink_if_empty(inside.in_room);
-    inside.tally.put_in = inside.tally.put_in.saturating_add(count as u64);
+    inside.tally.insertions = inside.tally.insertions.saturating_add(count as u64);
     bury_all(inside, &doomed);
 }
 

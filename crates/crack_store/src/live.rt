@@ -51,7 +51,7 @@ impl Store {
         ensures rising { IfOk result (λ rows. IsNonDecreasingBy serial_of rows.items) }
         ensures err { IfErr result (λ e. e ≡ Refusal.OutOfMemory) }
     {
-        self.facts();
+        self.recall_invariant();
         self.live_rows_in(self.inside.keys, self.inside.serials.len())
     }
 
@@ -82,7 +82,7 @@ impl Store {
         ensures order { IfOk result (λ found. KeepsOrder found) }
         ensures err { IfErr result (λ e. e ≡ Refusal.OutOfMemory) }
     {
-        self.facts();
+        self.recall_invariant();
         let serials = &self.inside.serials;
         let room = expected.min(serials.len());
         let mut found = Found {

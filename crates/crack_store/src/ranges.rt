@@ -19,7 +19,7 @@ impl Store {
         requires { range.high ≤ self.now.keys.high }
         ensures { result ≡ beyond self.now range }
     {
-        self.facts();
+        self.recall_invariant();
         let _ = &self.inside;
         let _ = self.inside.keys.high();
         let low = range.high();

@@ -1,9 +1,9 @@
-//! Admits a run of rows.
+//! Inserts a run of rows.
 ghost use Rattle.std.specs.Prelude.{◌≡◌, ◌+◌, ◌<◌, ◌≤◌, ◌^◌, ◌++◌, length, take};
 ghost use Rattle.std.specs.List.Sorted.{IsPermutation};
 ghost use Rattle.crack_state.specs.State.{live_rows};
 ghost use Rattle.crack_state.specs.Steps.{SameButRoom};
-ghost use Rattle.crack_store.specs.Runs.{run_rows, all_admitted, AreAdmissible};
+ghost use Rattle.crack_store.specs.Runs.{run_rows, rows_inserted, AreInsertable};
 
 use crate::Store;
 use crate::admitting::{add_rows, make_room_for_run, row_at_index};
@@ -14,20 +14,20 @@ use crack_row::{KeyNumber, PayloadNumber, Serial};
 const MANY_ROWS: usize = 16;
 
 impl Store {
-    /// Adds a row for each key and payload, in order, as `admit` does, with serials from `first` on. Returns how many
+    /// Adds a row for each key and payload, in order, as `insert` does, with serials from `first` on. Returns how many
     /// it added: fewer than all only if no memory was found for the next one. Makes room for many rows at once; for
     /// few, or if no memory is found for all, for one after the other. O(rows), except for growth.
-    pub fn admit_run(
+    pub fn insert_run(
         &mut self,
         first: Serial,
         keys: &[KeyNumber],
         payloads: &[PayloadNumber],
     ) -> usize
         requires payloads { length payloads.now ≡ length keys.now }
-        requires admissible { AreAdmissible first.0 keys.now self.old }
+        requires insertable { AreInsertable first.0 keys.now self.old }
         requires serials { first.0 + length keys.now < 2 ^ 64 }
         ensures few { result ≤ length keys.now }
-        ensures after { SameButRoom (all_admitted (take result (run_rows first.0 keys.now payloads.now)) self.old)
+        ensures after { SameButRoom (rows_inserted (take result (run_rows first.0 keys.now payloads.now)) self.old)
             self.new }
         ensures live { IsPermutation (take result (run_rows first.0 keys.now payloads.now) ++ live_rows self.old)
             (live_rows self.new) }
@@ -42,21 +42,21 @@ impl Store {
         keys.len()
     }
 
-    /// Does what `admit_run` does, but makes room for each row alone.
+    /// Does what `insert_run` does, but makes room for each row alone.
     #[inline(never)]
     fn admit_each(&mut self, first: Serial, keys: &[KeyNumber], payloads: &[PayloadNumber]) -> usize
         requires payloads { length payloads.now ≡ length keys.now }
-        requires admissible { AreAdmissible first.0 keys.now self.old }
+        requires insertable { AreInsertable first.0 keys.now self.old }
         requires serials { first.0 + length keys.now < 2 ^ 64 }
         ensures few { result ≤ length keys.now }
-        ensures after { SameButRoom (all_admitted (take result (run_rows first.0 keys.now payloads.now)) self.old)
+        ensures after { SameButRoom (rows_inserted (take result (run_rows first.0 keys.now payloads.now)) self.old)
             self.new }
         ensures live { IsPermutation (take result (run_rows first.0 keys.now payloads.now) ++ live_rows self.old)
             (live_rows self.new) }
     {
         'rows: for i in 0..keys.len() {
             let row = row_at_index(first, i, keys, payloads);
-            match self.admit(row) {
+            match self.insert(row) {
                 Ok(()) => {}
                 Err(_) => return i,
             }

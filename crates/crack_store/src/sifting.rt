@@ -234,7 +234,7 @@ fn carry_rows(
     let Sieve { column, moved, .. } = sieve;
     inside.column = column;
     inside.tally.moved = moved;
-    inside.tally.put_in = inside.tally.put_in.saturating_add(count as u64);
+    inside.tally.insertions = inside.tally.insertions.saturating_add(count as u64);
 }
 
 /// A visitor of a walk over the bounds from the highest down, which sifts rows through the column. The rows at the

@@ -28,7 +28,7 @@ pub(crate) fn take_in(inside: &mut Inside, place: usize) -> Near
 {
     let hand = inside.pending_in.take(place);
     inside.pending_in.shrink_if_empty(inside.in_room);
-    inside.tally.put_in = inside.tally.put_in.saturating_add(1);
+    inside.tally.insertions = inside.tally.insertions.saturating_add(1);
     let row = row_at(&inside.arena, hand);
     inside.column.set_aside(hand, Remembered::of(row));
     Near::Unsought
@@ -61,7 +61,7 @@ pub(crate) fn free_hand(inside: &mut Inside)
     inside.pending_out.strike(hand);
     inside.pending_out.shrink_if_empty(0);
     let _ = inside.arena.free(hand);
-    inside.tally.taken_out = inside.tally.taken_out.saturating_add(1);
+    inside.tally.deletions = inside.tally.deletions.saturating_add(1);
 }
 
 /// Appends the hand to the column, where its own piece must end. `above` is the least bound above its key; it and

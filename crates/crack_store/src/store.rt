@@ -8,7 +8,7 @@ ghost use Rattle.crack_arena.specs.Arena.{StandsAt};
 ghost use Rattle.crack_pending.specs.Pending.{Finds};
 ghost use Rattle.crack_serials.specs.Serials.{handle_of};
 ghost use Rattle.crack_state.specs.State.{State, IsIntact, live_rows};
-ghost use Rattle.crack_state.specs.Steps.{lifted, lifted_last, admitted, IsAdmissible, SameButRoom};
+ghost use Rattle.crack_state.specs.Steps.{lifted, lifted_last, row_inserted, IsInsertable, SameButRoom};
 ghost use Rattle.crack_state.specs.Merge.{Refines, Stands, IsCracked, edge, bound_above};
 ghost use Rattle.crack_state.specs.Points.{pending_by};
 ghost use Rattle.crack_store.specs.Inside.{no_cells, IsLayoutOf};
@@ -68,8 +68,8 @@ impl Store {
                 notes: Notes::new(alloc),
                 serials: Serials::new(alloc),
                 tally: MergeReport {
-                    put_in: 0,
-                    taken_out: 0,
+                    insertions: 0,
+                    deletions: 0,
                     evicted: 0,
                     moved: 0,
                     pulled: 0,
@@ -79,7 +79,7 @@ impl Store {
     }
 
     /// States the invariant of every store, and does nothing.
-    pub fn facts(&self)
+    pub fn recall_invariant(&self)
         ensures { IsIntact self.now [] }
     {
         let _ = &self.inside;
@@ -87,9 +87,9 @@ impl Store {
 
     /// Adds a row, in a free cell or a new one, as the last pending insertion. O(1). Refused with `OutOfMemory` if
     /// no memory is found; then nothing has changed.
-    pub fn admit(&mut self, row: Row) -> Result<(), Refusal>
-        requires { IsAdmissible row self.old }
-        ensures ok { OnOk result (SameButRoom (admitted row self.old) self.new) }
+    pub fn insert(&mut self, row: Row) -> Result<(), Refusal>
+        requires { IsInsertable row self.old }
+        ensures ok { OnOk result (SameButRoom (row_inserted row self.old) self.new) }
         ensures live { OnOk result (IsPermutation (row ∷ live_rows self.old) (live_rows self.new)) }
         ensures same { OnErr result (SameButRoom self.old self.new) }
         ensures err { IfErr result (λ e. e ≡ Refusal.OutOfMemory) }

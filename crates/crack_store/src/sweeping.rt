@@ -131,7 +131,7 @@ fn sweep_rows(
     );
     inside.column = column;
     inside.tally.moved = moved;
-    inside.tally.put_in = inside.tally.put_in.saturating_add(count as u64);
+    inside.tally.insertions = inside.tally.insertions.saturating_add(count as u64);
     bury_all(inside, &doomed);
 }
 

@@ -32,7 +32,7 @@ impl Carrying {
             return end;
         }
         'walks: loop {
-            self.facts();
+            self.recall_invariant();
             self.ascend(ceiling);
             if let Some(end) = self.carry_end(ceiling) {
                 return end;

@@ -50,9 +50,9 @@ fn in_bulk(rt: &impl Abort, alloc: Global, way: Way, seeds: u64) -> u64 {
 }
 
 /// The indices of the counts of rows put in, taken out and evicted.
-const PUT_IN: usize = 0;
+const INSERTIONS: usize = 0;
 
-const TAKEN_OUT: usize = 1;
+const DELETIONS: usize = 1;
 
 const EVICTED: usize = 2;
 
@@ -76,14 +76,14 @@ fn assert_alike(rt: &impl Abort, alloc: Global, way: Way, seeds: u64, place: usi
 
 #[test]
 fn carries_in_bulk_leave_what_one_after_the_other_leaves(rt: HostRuntime) {
-    let put_in = assert_alike(&rt, rt.alloc(), Way::Merge, 2000, PUT_IN);
-    assert!(rt; put_in > 1000 && in_bulk(&rt, rt.alloc(), Way::Merge, 2000) > 500);
+    let insertions = assert_alike(&rt, rt.alloc(), Way::Merge, 2000, INSERTIONS);
+    assert!(rt; insertions > 1000 && in_bulk(&rt, rt.alloc(), Way::Merge, 2000) > 500);
 }
 
 #[test]
 fn carries_past_doomed_rows_leave_what_one_after_the_other_leaves(rt: HostRuntime) {
-    let put_in = assert_alike(&rt, rt.alloc(), Way::Carry, 2000, PUT_IN);
-    assert!(rt; put_in > 1000 && in_bulk(&rt, rt.alloc(), Way::Carry, 2000) > 500);
+    let insertions = assert_alike(&rt, rt.alloc(), Way::Carry, 2000, INSERTIONS);
+    assert!(rt; insertions > 1000 && in_bulk(&rt, rt.alloc(), Way::Carry, 2000) > 500);
 }
 
 #[test]
@@ -94,6 +94,6 @@ fn carries_under_a_ceiling_leave_what_one_after_the_other_leaves(rt: HostRuntime
 
 #[test]
 fn pulls_by_fillers_in_bulk_leave_what_one_after_the_other_leaves(rt: HostRuntime) {
-    let taken = assert_alike(&rt, rt.alloc(), Way::Pull, 3000, TAKEN_OUT);
+    let taken = assert_alike(&rt, rt.alloc(), Way::Pull, 3000, DELETIONS);
     assert!(rt; taken > 1000);
 }

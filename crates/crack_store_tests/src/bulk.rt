@@ -3,7 +3,7 @@ ghost use Rattle.std.specs.Prelude.{◌<◌, ◌≤◌};
 
 use crate::carried::carries_in_bulk;
 use crate::merge::{crack_between, merge_at, numbers_of};
-use crate::script::{admits, row};
+use crate::script::{inserts, row};
 use crack_row::{KeyNumber, KeyRange, PieceSize, Policy};
 use crack_store::{Carrying, Store};
 use std::alloc::Global;
@@ -30,7 +30,7 @@ impl Numbers {
 /// Inserts a row with this key, which becomes a pending insertion.
 pub(crate) fn insert(rt: &impl Abort, store: &mut Store, key: KeyNumber) {
     let serial = store.cells() as u64;
-    let is_in = admits(rt, store, row((serial, key, 0)));
+    let is_in = inserts(rt, store, row((serial, key, 0)));
     assert!(rt; is_in);
 }
 

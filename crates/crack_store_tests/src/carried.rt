@@ -12,7 +12,7 @@ use crate::bulk::{
 };
 use crate::filled::pulled_at_last;
 use crate::merge::{crack_between, numbers_of};
-use crate::script::{admits, assert_all_keys, assert_at, dooms, row};
+use crate::script::{assert_all_keys, assert_at, dooms, inserts, row};
 use crack_merge::{carry_range, merge_complete};
 use crack_row::{Bound, Key, KeyNumber, KeyRange, Serial};
 use crack_store::Store;
@@ -102,10 +102,10 @@ fn carried_each(
 }
 
 /// Inserts rows with these keys, with serials from `first` on, each with one retry if memory is refused.
-fn admit_all(rt: &impl Abort, store: &mut Store, first: u64, keys: &[KeyNumber]) {
+fn insert_all(rt: &impl Abort, store: &mut Store, first: u64, keys: &[KeyNumber]) {
     for place in 0..keys.len() {
         let new = row((first.wrapping_add(place as u64), keys[place], 0));
-        let is_in = admits(rt, store, new) || admits(rt, store, new);
+        let is_in = inserts(rt, store, new) || inserts(rt, store, new);
         assert!(rt; is_in);
     }
 }
@@ -115,7 +115,7 @@ pub(crate) fn noted_with_six_more(rt: &impl Abort, alloc: Global, store: Store) 
     let mut store = store;
     let mut noted = Vec::new(alloc);
     note_counted(rt, &store, &mut noted);
-    admit_all(rt, &mut store, 5000, &[1, 1, 1, 1, 1, 1]);
+    insert_all(rt, &mut store, 5000, &[1, 1, 1, 1, 1, 1]);
     note_contents(rt, store, &mut noted);
     noted
 }
@@ -261,7 +261,7 @@ fn middle(rt: &impl Abort) -> KeyRange
 /// A store whose column has rows with these keys, with serials from 0 on, and is cracked at 15 and 25.
 fn merged_store(rt: &impl Abort, alloc: Global, keys: &[KeyNumber]) -> Store {
     let mut store = Store::new(alloc, KeyRange::all());
-    admit_all(rt, &mut store, 0, keys);
+    insert_all(rt, &mut store, 0, keys);
     let mut store = merge_at_last(rt, store);
     crack_at_last(rt, &mut store, middle(rt));
     store
@@ -360,7 +360,7 @@ const SWEEPS: &[Sweep] = &[
 fn assert_sweep(rt: &impl Abort, alloc: Global, sweep: Sweep) {
     let mut store = merged_store(rt, alloc, sweep.column);
     doom_all(rt, &mut store, sweep.doomed);
-    admit_all(rt, &mut store, sweep.column.len() as u64, sweep.pending);
+    insert_all(rt, &mut store, sweep.column.len() as u64, sweep.pending);
     let store = match sweep.work {
         Work::Merge => merge_at_last(rt, store),
         Work::Carry => carried_at_last(rt, store, middle(rt)),

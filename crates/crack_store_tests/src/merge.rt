@@ -45,8 +45,8 @@ pub(crate) fn merge_at(
 /// The counts of a report: rows put in, taken out, evicted, moved and pulled.
 pub(crate) fn numbers_of(report: MergeReport) -> [u64; 5] {
     [
-        report.put_in,
-        report.taken_out,
+        report.insertions,
+        report.deletions,
         report.evicted,
         report.moved,
         report.pulled,
@@ -58,27 +58,27 @@ const ALL: [BoundNumber; 2] = [0, GREATEST_BOUND];
 
 /// The column has the keys 10, 20 and 30, and is cracked at 15 and 25.
 const THREE: &[Step] = &[
-    Step::Admit((0, 10, 0)),
-    Step::Admit((1, 20, 0)),
-    Step::Admit((2, 30, 0)),
+    Step::Insert((0, 10, 0)),
+    Step::Insert((1, 20, 0)),
+    Step::Insert((2, 30, 0)),
     Step::Merge(Policy::Complete, ALL, [3, 0, 0, 0, 0], 3),
     Step::Crack(15, 25, 1),
 ];
 
 /// The column has the keys 10, 20, 30 and 40, and is cracked at 15 and 25.
 const FOUR: &[Step] = &[
-    Step::Admit((0, 10, 0)),
-    Step::Admit((1, 20, 0)),
-    Step::Admit((2, 30, 0)),
-    Step::Admit((3, 40, 0)),
+    Step::Insert((0, 10, 0)),
+    Step::Insert((1, 20, 0)),
+    Step::Insert((2, 30, 0)),
+    Step::Insert((3, 40, 0)),
     Step::Merge(Policy::Ripple, ALL, [4, 0, 0, 0, 0], 4),
     Step::Crack(15, 25, 1),
 ];
 
 /// The column has the keys 10 and 40, and is cracked at 20 and 30.
 const APART: &[Step] = &[
-    Step::Admit((0, 10, 0)),
-    Step::Admit((1, 40, 0)),
+    Step::Insert((0, 10, 0)),
+    Step::Insert((1, 40, 0)),
     Step::Merge(Policy::Ripple, ALL, [2, 0, 0, 0, 0], 2),
     Step::Crack(20, 30, 0),
 ];
@@ -88,8 +88,8 @@ const SCRIPTS: &[Script] = &[
         name: "complete merges every pending row",
         first: THREE,
         steps: &[
-            Step::Admit((3, 17, 0)),
-            Step::Admit((4, 90, 0)),
+            Step::Insert((3, 17, 0)),
+            Step::Insert((4, 90, 0)),
             Step::Merge(Policy::Complete, [15, 25], [2, 0, 0, 1, 0], 2),
             Step::Look([5, 0, 0], &[1, 2, 2]),
         ],
@@ -98,8 +98,8 @@ const SCRIPTS: &[Script] = &[
         name: "complete leaves pending rows that none needs",
         first: THREE,
         steps: &[
-            Step::Admit((3, 5, 0)),
-            Step::Admit((4, 90, 0)),
+            Step::Insert((3, 5, 0)),
+            Step::Insert((4, 90, 0)),
             Step::Merge(Policy::Complete, [15, 25], [0, 0, 0, 0, 0], 1),
             Step::Look([3, 2, 0], &[1, 1, 1]),
         ],
@@ -108,8 +108,8 @@ const SCRIPTS: &[Script] = &[
         name: "gradual merges rows of the range alone",
         first: THREE,
         steps: &[
-            Step::Admit((3, 90, 0)),
-            Step::Admit((4, 17, 0)),
+            Step::Insert((3, 90, 0)),
+            Step::Insert((4, 17, 0)),
             Step::Merge(Policy::Gradual, [15, 25], [1, 0, 0, 1, 0], 2),
             Step::Look([4, 1, 0], &[1, 2, 1]),
         ],
@@ -119,8 +119,8 @@ const SCRIPTS: &[Script] = &[
         first: THREE,
         steps: &[
             Step::Doom((2, 30, 0)),
-            Step::Admit((3, 17, 0)),
-            Step::Admit((4, 90, 0)),
+            Step::Insert((3, 17, 0)),
+            Step::Insert((4, 90, 0)),
             Step::Merge(Policy::Gradual, [15, 25], [1, 1, 0, 1, 0], 2),
             Step::Look([3, 1, 0], &[1, 2, 0]),
         ],
@@ -158,7 +158,7 @@ const SCRIPTS: &[Script] = &[
         name: "ripple evicts the row in the way",
         first: APART,
         steps: &[
-            Step::Admit((2, 15, 0)),
+            Step::Insert((2, 15, 0)),
             Step::Merge(Policy::Ripple, [10, 20], [1, 0, 1, 1, 0], 2),
             Step::Look([2, 1, 0], &[0, 2, 0, 0]),
         ],
@@ -167,9 +167,9 @@ const SCRIPTS: &[Script] = &[
         name: "an empty piece at the end keeps its low bound",
         first: APART,
         steps: &[
-            Step::Admit((2, 15, 0)),
+            Step::Insert((2, 15, 0)),
             Step::Merge(Policy::Ripple, [10, 20], [1, 0, 1, 1, 0], 2),
-            Step::Admit((3, 25, 0)),
+            Step::Insert((3, 25, 0)),
             Step::Merge(Policy::Ripple, [20, 30], [1, 0, 0, 0, 0], 1),
             Step::Look([3, 1, 0], &[0, 2, 1, 0]),
         ],
@@ -179,7 +179,7 @@ const SCRIPTS: &[Script] = &[
         first: THREE,
         steps: &[
             Step::Doom((2, 30, 0)),
-            Step::Admit((3, 17, 0)),
+            Step::Insert((3, 17, 0)),
             Step::Merge(Policy::Ripple, [15, 25], [1, 1, 0, 1, 0], 2),
             Step::Look([3, 0, 0], &[1, 2, 0]),
         ],
@@ -189,7 +189,7 @@ const SCRIPTS: &[Script] = &[
         first: THREE,
         steps: &[
             Step::Doom((1, 20, 0)),
-            Step::Admit((3, 27, 0)),
+            Step::Insert((3, 27, 0)),
             Step::Merge(Policy::Ripple, [15, 25], [1, 1, 0, 0, 1], 0),
             Step::Look([3, 0, 0], &[1, 0, 2]),
         ],
@@ -199,8 +199,8 @@ const SCRIPTS: &[Script] = &[
         name: "complete puts two more rows in",
         first: FOUR,
         steps: &[
-            Step::Admit((4, 17, 0)),
-            Step::Admit((5, 90, 0)),
+            Step::Insert((4, 17, 0)),
+            Step::Insert((5, 90, 0)),
             Step::Merge(Policy::Complete, [15, 25], [2, 0, 0, 1, 0], 2),
             Step::Look([6, 0, 0], &[1, 2, 3]),
         ],
@@ -210,8 +210,8 @@ const SCRIPTS: &[Script] = &[
         name: "gradual puts one of two rows in",
         first: FOUR,
         steps: &[
-            Step::Admit((4, 17, 0)),
-            Step::Admit((5, 90, 0)),
+            Step::Insert((4, 17, 0)),
+            Step::Insert((5, 90, 0)),
             Step::Merge(Policy::Gradual, [15, 25], [1, 0, 0, 1, 0], 2),
             Step::Look([5, 1, 0], &[1, 2, 2]),
         ],
@@ -221,8 +221,8 @@ const SCRIPTS: &[Script] = &[
         name: "ripple puts one of two rows in",
         first: FOUR,
         steps: &[
-            Step::Admit((4, 17, 0)),
-            Step::Admit((5, 90, 0)),
+            Step::Insert((4, 17, 0)),
+            Step::Insert((5, 90, 0)),
             Step::Merge(Policy::Ripple, [15, 25], [1, 0, 1, 1, 0], 2),
             Step::Look([4, 2, 0], &[1, 2, 1]),
         ],

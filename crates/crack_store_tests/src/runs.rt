@@ -8,7 +8,7 @@ ghost use Rattle.crack_serials.specs.Serials.{handle_of};
 
 use crate::bulk::{Numbers, some_store};
 use crate::carried::noted_with_six_more;
-use crate::script::{admits, assert_all_keys, assert_at, row};
+use crate::script::{assert_all_keys, assert_at, inserts, row};
 use crack_row::{KeyNumber, KeyRange, PayloadNumber, Serial};
 use crack_store::Store;
 use std::alloc::Global;
@@ -33,7 +33,7 @@ fn are_new(store: &Store, first: u64, count: usize) -> bool
 }
 
 /// Inserts a run of rows, and returns how many were inserted.
-fn admit_run(
+fn insert_run(
     rt: &impl Abort,
     store: &mut Store,
     first: u64,
@@ -48,7 +48,7 @@ fn admit_run(
     assert!(rt; first <= 10000);
     let are_new = are_new(store, first, keys.len());
     assert!(rt; are_new);
-    store.admit_run(Serial(first), keys, payloads)
+    store.insert_run(Serial(first), keys, payloads)
 }
 
 /// Inserts the rows of a run one after the other.
@@ -61,7 +61,7 @@ fn admit_each(
 ) {
     assert!(rt; payloads.len() == keys.len());
     'rows: for i in 0..keys.len() {
-        let is_in = admits(
+        let is_in = inserts(
             rt,
             store,
             row((first.wrapping_add(i as u64), keys[i], payloads[i])),
@@ -96,7 +96,7 @@ fn noted_by(rt: &impl Abort, alloc: Global, seed: u64, at_once: bool) -> Vec<u64
         assert!(rt; payloads.push(i as i64).is_ok());
     }
     if at_once {
-        let all = admit_run(rt, &mut store, FIRST, keys.as_slice(), payloads.as_slice());
+        let all = insert_run(rt, &mut store, FIRST, keys.as_slice(), payloads.as_slice());
         assert!(rt; all == keys.len());
     } else {
         admit_each(rt, &mut store, FIRST, keys.as_slice(), payloads.as_slice());
@@ -124,7 +124,7 @@ fn runs_leave_what_one_after_the_other_leaves(rt: HostRuntime) {
 #[test]
 fn an_empty_run_adds_nothing(rt: HostRuntime) {
     let mut store = Store::new(rt.alloc(), KeyRange::all());
-    let added = admit_run(&rt, &mut store, 0, &[], &[]);
+    let added = insert_run(&rt, &mut store, 0, &[], &[]);
     assert!(rt; added == 0 && store.cells() == 0 && store.pending_in() == 0);
     drop(store);
 }
@@ -143,7 +143,7 @@ const PAYLOADS: [PayloadNumber; 20] = [
 fn sweep_a_run_of_rows(rt: HostRuntime) {
     let (keys, payloads) = (KEYS, PAYLOADS);
     let mut store = Store::new(rt.alloc(), KeyRange::all());
-    let added = admit_run(&rt, &mut store, 7, &keys, &payloads);
+    let added = insert_run(&rt, &mut store, 7, &keys, &payloads);
     assert!(rt; added == 20 && store.pending_in() == 20);
     'rows: for i in 0..20 {
         let serial = 7 + i as u64;

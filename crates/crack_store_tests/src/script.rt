@@ -17,7 +17,7 @@ pub(crate) type Numbers = (u64, KeyNumber, PayloadNumber);
 #[derive(Clone, Copy)]
 pub(crate) enum Step {
     /// Inserts a row, which becomes the last pending insertion.
-    Admit(Numbers),
+    Insert(Numbers),
     /// Appends the first pending insertion to the column.
     Append,
     /// Pushes the first pending insertion on once, which takes a row with this key into the hand, and appends that
@@ -123,7 +123,7 @@ fn push_once(rt: &impl Abort, store: Store, key: KeyNumber) -> Store {
     let carrying = push_on(rt, lift_first(rt, store));
     let (_, row) = carrying.hand();
     let tally = carrying.tally();
-    assert!(rt; row.key.number() == key && tally.put_in == 3 && tally.moved == 1);
+    assert!(rt; row.key.number() == key && tally.insertions == 3 && tally.moved == 1);
     append(rt, carrying)
 }
 
@@ -139,12 +139,12 @@ pub(crate) fn assert_all_keys(rt: &impl Abort, store: &Store)
 }
 
 /// Whether a row can be inserted, and is then a pending insertion.
-pub(crate) fn admits(rt: &impl Abort, store: &mut Store, new: Row) -> bool {
+pub(crate) fn inserts(rt: &impl Abort, store: &mut Store, new: Row) -> bool {
     assert_all_keys(rt, store);
     if store.is_pending(new.serial).is_some() || store.cells() >= 1000 {
         return false;
     }
-    store.admit(new).is_ok() && store.is_pending(new.serial) == Some(true)
+    store.insert(new).is_ok() && store.is_pending(new.serial) == Some(true)
 }
 
 /// Whether a pending insertion that is this row can be cancelled, and is gone then.
@@ -329,7 +329,7 @@ fn looks(store: &Store, step: Step) -> bool {
 /// Makes a step in place, and returns whether it had the expected result.
 fn change(rt: &impl Abort, store: &mut Store, step: Step) -> bool {
     match step {
-        Step::Admit(new) => admits(rt, store, row(new)),
+        Step::Insert(new) => inserts(rt, store, row(new)),
         Step::Crack(low, high, rows) => cracks(store, low, high, rows),
         Step::Cancel(gone) => cancels(store, row(gone)),
         Step::Doom(gone) => dooms(store, row(gone)),

@@ -1,7 +1,7 @@
 //! Which sums a source is asked for and which it isn't, and sums that don't fit. Tests are lists of steps.
 
 use crate::script::assert_at;
-use crack_index::{PieceSums, Source};
+use crack_index::{PieceSums, SumSource};
 use crack_row::{BoundNumber, GREATEST_BOUND, Key, KeyNumber, KeyRange};
 use std::alloc::Global;
 use std::cell::Cell;
@@ -16,7 +16,7 @@ struct Rows {
     asked: Cell<u32>,
 }
 
-impl Source for Rows {
+impl SumSource for Rows {
     ghost use Rattle.std.specs.Prelude.{⊤};
 
     ghost says = { λ _ _ _ _. ⊤ };

@@ -15,8 +15,8 @@ use Rattle.crack_row.specs.declared.command.Reply.{Reply}
 use Rattle.crack_row.specs.declared.limit.Limits.{Limits}
 use Rattle.crack_row.specs.declared.refusal.Refusal.{Refusal}
 use Rattle.crack_row.specs.declared.refusal.Refusal.TheVariants.{KeyOutside, HistoryFull, LifeOver, OutOfMemory, NoCell}
-use Rattle.crack_plain.specs.Past.{Past, IsLegal, state_after, with_entry, accepted_in, folded}
-use Rattle.crack_plain.specs.Plain.{PlainState, PlainView, AreReplies, checkpointed, reply_to, after}
+use Rattle.crack_plain.specs.Past.{Past, IsLegal, state_after, with_entry, accepted_in, checkpointed_past}
+use Rattle.crack_plain.specs.Plain.{PlainState, PlainView, AreReplies, checkpointed_table, reply_to, after}
 use Rattle.crack_plain.proofs.PastLaws.{state_after-push}
 use Rattle.crack_plain.proofs.Words.{IsWithin, BringWithin, replay_from}
 use Rattle.crack_part.specs.Refusals.{is_key_in}
@@ -69,8 +69,8 @@ next-answered limits keys past now e rest legal base tails =
     let long : length past.tail ≡ length now.tail + length (e ∷ rest) = ap length tails ∙ length-append now.tail (e ∷ rest) in
     let more : length (e ∷ rest) ≡ suc (length rest) = refl in
     let room : length now.tail < limits.history = omega (arith, long, more, legal.limited) in
-    let folded_same : now.base.folded ≡ past.base.folded = ap (λ b. b.folded) base in
-    let lives : accepted_in now < limits.life = omega (arith, long, more, folded_same, legal.lived) in
+    let checkpointed_same : now.base.checkpointed ≡ past.base.checkpointed = ap (λ b. b.checkpointed) base in
+    let lives : accepted_in now < limits.life = omega (arith, long, more, checkpointed_same, legal.lived) in
     let full : (nat_le limits.history (length now.tail) && not (is_automatic limits.upkeep)) ≡ false = ap (λ (b : Bool). b && not (is_automatic limits.upkeep)) (lt-leb limits.history (length now.tail) room) in
     let within : IsWithin keys e.command = middle-within keys now.tail rest e (subst (λ (es : List Entry). BringWithin keys es) tails legal.within) in
     let none = uncaused limits (is_key_in keys (key_of e.command)) (nat_le limits.history (length now.tail) && not (is_automatic limits.upkeep)) (nat_le limits.life (accepted_in now)) (key-tested keys (key_of e.command) within) full (lt-leb limits.life (accepted_in now) lives) in
@@ -107,7 +107,7 @@ table_of_past-push past e =
 table_of_past-upkept : (limits : Limits) (past : Past) → table_of_past (upkept_past limits past) ≡ upkept_by (bounds_from limits) (table_of_past past)
 table_of_past-upkept limits past = by_test (is_due limits (length past.tail))
   where
-    by_test : (b : Bool) → table_of_past (cond b (folded past) past) ≡ cond b (checkpointed (table_of_past past)) (table_of_past past)
+    by_test : (b : Bool) → table_of_past (cond b (checkpointed_past past) past) ≡ cond b (checkpointed_table (table_of_past past)) (table_of_past past)
     by_test true = refl
     by_test false = refl
 
@@ -399,7 +399,7 @@ repeats owner splits limits parts whole are steps results asks outcomes = record
           where
             by_past : (o : Option Past) → slice_get pasts s.part ≡ o → (past : Past) × (final s.part ≡ Some past)
             by_past (Some past) is = (past, is)
-            by_past None is = absurd (cc (is, slice_get-get_or pasts s.part (record { base = record { state = record { rows = []; next = 0 }; folded = 0; placed = 0; gone = 0 }; tail = [] }) within))
+            by_past None is = absurd (cc (is, slice_get-get_or pasts s.part (record { base = record { state = record { rows = []; next = 0 }; checkpointed = 0; placed = 0; gone = 0 }; tail = [] }) within))
 
     same : length results ≡ length steps
     same = sym (length-map results (mapped Replied)) ∙ outcomes.each ∙ length-map steps Perform

@@ -24,16 +24,16 @@ MayRefuse table may_refuse part command worker e =
     ((e ≡ GateGaveUp) × ((turn : ℕ) → turn < GATE_TURNS → may_refuse turn))
     ⊎ ((e ≡ OutOfMemory)
     ⊎ (((p : Part) × (cause : Refusal) × (refusal_of p command ≡ Some cause) × (e ≡ with_limit table.limits.history cause))
-    ⊎ ((e ≡ StrangeReceipt part (slice_index_or worker.counts part 0)) ⊎ ((e ≡ NoSuchPartition) × (length worker.fronts ≤ part)))))
+    ⊎ ((e ≡ StrangeReceipt part (slice_index_or worker.counts part 0)) ⊎ ((e ≡ NoSuchPartition) × (length worker.seen_by_part ≤ part)))))
 
 -- A worker asks one partition. If it is answered, what it now sees of the partition's history ends with its entry,
 -- after all that it had seen before; every history is legal, the worker's entries there are those of its replies,
 -- and with an audit it has one more receipt. If it is refused, there is a cause, and the worker is unchanged.
 pub record AsksTable (owner : ℕ → ℕ) (table : TableState) (may_refuse : ℕ → Type 0) (part : ℕ) (command : Command) (result : Result Reply Refusal) (old new : WorkerState) : Type 0 where
   pub given : IfOk result (λ reply. IsGiven owner part (record { worker = old.worker; command = command; reply = reply }) old.seen new.seen)
-  pub mine : IfOk result (λ reply. calls_at owner part old.worker new.seen ≡ calls_at owner part old.worker (slice_index_or old.fronts part []) ++ record { worker = old.worker; command = command; reply = reply } ∷ [])
+  pub mine : IfOk result (λ reply. calls_at owner part old.worker new.seen ≡ calls_at owner part old.worker (slice_index_or old.seen_by_part part []) ++ record { worker = old.worker; command = command; reply = reply } ∷ [])
   pub receipts : IfOk result (λ reply. (position : ℕ) × (new.receipts ≡ and_one old.receipts (record { part = part; position = position; worker = old.worker; command = command; reply = reply })))
-  pub fronts : OnOk result (new.fronts ≡ slice_set old.fronts part new.seen)
+  pub seen_by_part : OnOk result (new.seen_by_part ≡ slice_set old.seen_by_part part new.seen)
   pub legal : OnOk result (AreHistories new.seen)
   pub small : IfOk result IsSmall
   pub at : AnswersAt table part (MayRefuse table may_refuse part command old) result

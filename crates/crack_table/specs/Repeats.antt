@@ -46,7 +46,7 @@ at_base past = record { base = past.base; tail = [] }
 
 -- the plain table after a past: its rows, how many commands the base counts, and how many entries the history has
 abbrev pub table_of_past : Past → PlainView
-table_of_past past = record { state = state_after past; folded = past.base.folded; since = length past.tail }
+table_of_past past = record { state = state_after past; checkpointed = past.base.checkpointed; since = length past.tail }
 
 -- the plain table of a past as it was after its last checkpoint
 abbrev pub table_at_base : Past → PlainView

@@ -18,7 +18,7 @@ use crack_witness::{Naming, Witnessed, Worker};
 
 /// Asks the gate until it consents, and then the partition, which must have number `part`, for the worker. The
 /// partition stays borrowed from the first call of the gate to the reply, so its lock can't be released in between.
-/// Returns the outcome of asking the partition, which may be a refusal, and sets `folded` to how many commands a
+/// Returns the outcome of asking the partition, which may be a refusal, and sets `checkpointed` to how many commands a
 /// checkpoint that was due added to the base, or to 0. Refused with `GateGaveUp` if the gate refuses `GATE_TURNS`
 /// times: then worker and partition are as they were.
 pub(crate) fn ask_behind<J: Naming, G: Gate>(
@@ -28,7 +28,7 @@ pub(crate) fn ask_behind<J: Naming, G: Gate>(
     witnessed: &mut Witnessed<J>,
     command: Command,
     policy: Policy,
-    folded: &mut u64,
+    checkpointed: &mut u64,
 ) -> Result<Result<Reply, Refusal>, Refusal>
     ensures cause { IfErr result (λ e. e ≡ Refusal.GateGaveUp) }
     ensures turns { OnErr result ((turn : ℕ) → turn < GATE_TURNS → G.may_refuse gate.now part turn) }
@@ -40,7 +40,7 @@ pub(crate) fn ask_behind<J: Naming, G: Gate>(
     ensures given { IfOk result (λ answered. IfOk answered (λ reply. IsGiven J.owner part
         (record { worker = worker.old.worker; command = command; reply = reply }) worker.old.seen worker.new.seen)) }
     ensures mine { IfOk result (λ answered. IfOk answered (λ reply. calls_at J.owner part worker.old.worker
-        worker.new.seen ≡ calls_at J.owner part worker.old.worker (slice_index_or worker.old.fronts part []) ++
+        worker.new.seen ≡ calls_at J.owner part worker.old.worker (slice_index_or worker.old.seen_by_part part []) ++
         record { worker = worker.old.worker; command = command; reply = reply } ∷ [])) }
     ensures receipts { IfOk result (λ answered. IfOk answered (λ reply. worker.new.receipts ≡
         and_one worker.old.receipts (record {
@@ -51,8 +51,8 @@ pub(crate) fn ask_behind<J: Naming, G: Gate>(
           reply = reply;
         }))) }
     ensures count { IfOk result (λ answered. OnOk answered (replies_to worker.new ≡ replies_to worker.old + 1)) }
-    ensures fronts { IfOk result (λ answered. OnOk answered (worker.new.fronts ≡ slice_set worker.old.fronts part
-        worker.new.seen)) }
+    ensures seen_by_part { IfOk result (λ answered. OnOk answered (worker.new.seen_by_part ≡ slice_set
+        worker.old.seen_by_part part worker.new.seen)) }
     ensures legal { IfOk result (λ answered. OnOk answered (AreHistories worker.new.seen)) }
     ensures whole { IfOk result (λ answered. OnOk answered ((witnessed.old.part ≡ part) ×
         (worker.new.seen ≡ witnessed.new.log))) }
@@ -60,19 +60,20 @@ pub(crate) fn ask_behind<J: Naming, G: Gate>(
         answered witnessed.old.held.limits (table_of witnessed.old.held) command)) }
     ensures store { IfOk result (λ answered. OnOk answered (Serves policy witnessed.old.held command
         witnessed.new.held.store)) }
-    ensures folds { OnOk result (witnessed.new.held.folded ≡ witnessed.old.held.folded + folded.new) }
+    ensures checkpoints { OnOk result (witnessed.new.held.checkpointed ≡ witnessed.old.held.checkpointed +
+        checkpointed.new) }
     ensures opened { (witnessed.new.held.keys ≡ witnessed.old.held.keys) × (witnessed.new.held.limits ≡
         witnessed.old.held.limits) × (witnessed.new.part ≡ witnessed.old.part) }
     ensures seen { IsPrefix worker.old.seen worker.new.seen × IsPrefix witnessed.old.log witnessed.new.log }
     ensures worker { worker.new.worker ≡ worker.old.worker }
 
-    ensures strange { IfOk result (λ answered. part < length worker.old.fronts →
+    ensures strange { IfOk result (λ answered. part < length worker.old.seen_by_part →
         (KnowsHistory J.owner worker.old part witnessed.old → ⊥) →
         (answered ≡ Err (Refusal.StrangeReceipt part (replies_at worker.old part))) × (witnessed.new ≡ witnessed.old)) }
-    ensures refused { IfOk result (λ answered. part < length worker.old.fronts →
+    ensures refused { IfOk result (λ answered. part < length worker.old.seen_by_part →
         KnowsHistory J.owner worker.old part witnessed.old → IfSome (refusal_of witnessed.old.held command) (λ e.
         (answered ≡ Err e) × (witnessed.new ≡ witnessed.old))) }
-    ensures memory { IfOk result (λ answered. part < length worker.old.fronts →
+    ensures memory { IfOk result (λ answered. part < length worker.old.seen_by_part →
         KnowsHistory J.owner worker.old part witnessed.old → refusal_of witnessed.old.held command ≡ None →
         IfErr answered (λ e. e ≡ Refusal.OutOfMemory)) }
     ensures spared { IfOk result (λ answered. OnErr answered (Spares policy witnessed.old.held command
@@ -83,9 +84,9 @@ pub(crate) fn ask_behind<J: Naming, G: Gate>(
         (witnessed.new.log ≡ witnessed.old.log) × (table_of witnessed.new.held ≡ table_of witnessed.old.held))) }
 {
     pass(gate, part)?;
-    let before = witnessed.partition().folded();
+    let before = witnessed.partition().checkpointed();
     let answered = worker.ask(witnessed, part, command, policy);
-    *folded = witnessed.partition().folded() - before;
+    *checkpointed = witnessed.partition().checkpointed() - before;
     Ok(answered)
 }
 

@@ -71,7 +71,7 @@ fn list_of<J: Naming>(part: &Witnessed<J>) -> &[Entry]
     requires listed { is_some part.now.entries ≡ true }
     ensures { result.now ≡ history_in J.owner part.now }
 {
-    part.facts();
+    part.recall_invariant();
     match part.entries() {
         Some(list) => list,
         None => unreachable!(),

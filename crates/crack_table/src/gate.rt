@@ -67,10 +67,10 @@ pub(crate) fn pass<G: Gate>(gate: &G, part: u32) -> Result<(), Refusal>
     Err(Refusal::GateGaveUp)
 }
 
-/// Notifies the gate of a checkpoint that was due, of `folded` commands; 0 means that there was none.
+/// Notifies the gate of a checkpoint that was due, of `checkpointed` commands; 0 means that there was none.
 #[inline(always)]
-pub(crate) fn note_folded<G: Gate>(gate: &G, part: u32, folded: u64) {
-    if folded > 0 {
-        gate.note_checkpoint(part, folded);
+pub(crate) fn note_due_checkpoint<G: Gate>(gate: &G, part: u32, checkpointed: u64) {
+    if checkpointed > 0 {
+        gate.note_checkpoint(part, checkpointed);
     }
 }

@@ -16,7 +16,7 @@ ghost use Rattle.crack_table.specs.Keeps.{AreNumbered};
 use crate::auditing::{audit, is_listed};
 use crate::locks::{lock, unlock};
 use crate::table::Table;
-use crate::totals::{Sums, sums_of};
+use crate::totals::{HistoryTotals, sums_of};
 use crack_core::keys_of_part;
 use crack_part::Partition;
 use crack_row::{Bound, Limits, Refusal};
@@ -174,7 +174,7 @@ fn match_all<J: Naming>(
     is_audited: bool,
     parts: &mut Vec<Witnessed<J>>,
     workers: &Vec<Worker<J>>,
-) -> Result<Sums, Refusal>
+) -> Result<HistoryTotals, Refusal>
     requires count { length parts.old.items ≡ length splits.now + 1 }
     requires rising { AreSplits splits.now }
     ensures same { parts.new.items ≡ parts.old.items }
@@ -188,7 +188,7 @@ fn match_all<J: Naming>(
         s.inserted s.deleted) }
     ensures causes { IfErr result (MayNotMatch J.owner splits.now limits count is_audited workers.now.items) }
 {
-    facts(parts);
+    recall_invariant(parts);
     if let Some(part) = first_strange(splits, limits, count, is_audited, parts) {
         return Err(Refusal::StrangeReceipt { part, position: 0 });
     }
@@ -198,12 +198,12 @@ fn match_all<J: Naming>(
 }
 
 /// States the invariants of every partition. Does nothing: O(partitions).
-pub(crate) fn facts<J: Naming>(parts: &Vec<Witnessed<J>>)
+pub(crate) fn recall_invariant<J: Naming>(parts: &Vec<Witnessed<J>>)
     ensures whole { All (λ (w : WitnessedState). IsWhole J.owner w) parts.now.items }
     ensures sound { All (λ (w : WitnessedState). IsSound w.held) parts.now.items }
 {
     'parts: for part in parts {
-        part.facts();
+        part.recall_invariant();
     }
 }
 

@@ -13,7 +13,7 @@ use crate::locks::lock;
 use crate::table::Table;
 use crack_core::{limits_fault, open_partitions, splits_fault};
 use crack_row::{Bound, Limits, Refusal};
-use crack_witness::{Front, Naming, Opened, Worker};
+use crack_witness::{Naming, Opened, SeenEvents, Worker};
 use std::alloc::{AllocError, Global};
 use std::marker::Model;
 
@@ -104,9 +104,14 @@ impl UnnamedTable {
             is_audited,
         } = self;
         let parts = open_partitions(alloc, &splits, limits)?;
-        let (front, mut witnessed) = opened.witness::<J>(alloc, parts, count as u32, is_audited)?;
+        let (seen_events, mut witnessed) = opened.witness::<J>(
+            alloc,
+            parts,
+            count as u32,
+            is_audited,
+        )?;
         let mut locks = Vec::with_capacity(alloc, witnessed.len())?;
-        let workers = hire(alloc, &front, count, witnessed.len(), is_audited)?;
+        let workers = make_workers(alloc, &seen_events, count, witnessed.len(), is_audited)?;
         lock(&mut witnessed, &mut locks);
         let table = Table {
             locks,
@@ -135,21 +140,21 @@ fn fault(splits: &[Bound], limits: Limits, workers: u64) -> Option<Refusal>
 
 /// `count` workers, numbered from 0, for this many partitions. They keep receipts if there is an audit. Refused if
 /// no memory is found.
-fn hire<J: Naming>(
+fn make_workers<J: Naming>(
     alloc: Global,
-    front: &Front<J>,
+    seen_events: &SeenEvents<J>,
     count: u64,
     parts: usize,
     is_audited: bool,
 ) -> Result<Vec<Worker<J>>, AllocError>
-    requires empty { AreEmpty front.now }
+    requires empty { AreEmpty seen_events.now }
     requires few { count ≤ 64 }
     requires parts { parts ≤ 64 }
     ensures { IfOk result (λ workers. AreNewWorkers count parts is_audited workers.items) }
 {
     let mut workers = Vec::new(alloc);
     'numbers: for number in 0..count {
-        workers.push(Worker::new(alloc, number as u32, front.again(), parts, is_audited)?)?;
+        workers.push(Worker::new(alloc, number as u32, seen_events.copy(), parts, is_audited)?)?;
     }
     Ok(workers)
 }

@@ -6,7 +6,7 @@ ghost use Rattle.crack_core.specs.Opening.{AreParts};
 ghost use Rattle.crack_table.specs.Gather.{held_by};
 ghost use Rattle.crack_table.specs.Repeats.{pasts_of, Repeats};
 
-use crate::gathering::{Gathered, facts};
+use crate::gathering::{Gathered, recall_invariant};
 use crack_witness::Naming;
 
 /// States that one thread can repeat the answers to a table's workers: in a core with the same splits and limits,
@@ -17,5 +17,5 @@ pub fn one_thread_repeats<J: Naming>(gathered: &Gathered<J>)
     ensures { (splits : List Bound) (limits : Limits) → AreParts splits limits (held_by gathered.now.parts.items) →
         Repeats splits limits (pasts_of J.owner gathered.now.parts.items) }
 {
-    facts(&gathered.parts);
+    recall_invariant(&gathered.parts);
 }

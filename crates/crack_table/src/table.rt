@@ -7,7 +7,7 @@ ghost use Rattle.crack_table.specs.Asking.{AsksTable};
 ghost use Rattle.crack_table.specs.Tables.{AnswersAt, LooksAt, MeasuresAt};
 
 use crate::asking::{ask_behind, with_table_limit};
-use crate::gate::{Gate, note_folded};
+use crate::gate::{Gate, note_due_checkpoint};
 use crack_plain::Statistics;
 use crack_row::{Bound, Command, Layout, Limits, Policy, Refusal, Reply};
 use crack_witness::{Naming, Witnessed, Worker};
@@ -56,7 +56,7 @@ impl<J: Naming> Model for Table<J> {
 impl<J: Naming> Table<J> {
     /// States the invariants of every table, among them one lock for each partition, and no two partitions with the
     /// same history. Does nothing.
-    pub fn facts(&self)
+    pub fn recall_invariant(&self)
         ensures locks { self.now.locks ≡ length self.now.splits + 1 }
         ensures rising { AreSplits self.now.splits }
         ensures limited { AreLimits self.now.limits }
@@ -105,7 +105,7 @@ impl<J: Naming> Table<J> {
             return Err(Refusal::NoSuchPartition);
         };
         let mut witnessed = lock.lock(rt);
-        let mut folded = 0;
+        let mut checkpointed = 0;
         let answered = ask_behind(
             gate,
             worker,
@@ -113,10 +113,10 @@ impl<J: Naming> Table<J> {
             &mut witnessed,
             command,
             policy,
-            &mut folded,
+            &mut checkpointed,
         )?;
         drop(witnessed);
-        note_folded(gate, part, folded);
+        note_due_checkpoint(gate, part, checkpointed);
         let reply = with_table_limit(answered, self.limits.history)?;
         Ok(reply)
     }
@@ -157,7 +157,7 @@ impl<J: Naming> Table<J> {
             return Err(Refusal::NoSuchPartition);
         };
         let witnessed = lock.lock(rt);
-        witnessed.facts();
+        witnessed.recall_invariant();
         Ok(witnessed.partition().statistics())
     }
 }

@@ -10,7 +10,7 @@ use crack_witness::{Naming, Witnessed};
 
 /// How many commands were accepted, and how many rows were inserted, deleted, and are live.
 #[derive(Clone, Copy, Drop)]
-pub(crate) struct Sums {
+pub(crate) struct HistoryTotals {
     pub(crate) accepted: u64,
     pub(crate) inserted: u64,
     pub(crate) deleted: u64,
@@ -18,7 +18,7 @@ pub(crate) struct Sums {
 }
 
 /// The totals of the partitions' histories. O(partitions).
-pub(crate) fn sums_of<J: Naming>(parts: &Vec<Witnessed<J>>) -> Sums
+pub(crate) fn sums_of<J: Naming>(parts: &Vec<Witnessed<J>>) -> HistoryTotals
     requires whole { All (λ (w : WitnessedState). IsWhole J.owner w) parts.now.items }
     requires sound { All (λ (w : WitnessedState). IsSound w.held) parts.now.items }
     requires few { length parts.now.items ≤ 64 }
@@ -26,7 +26,7 @@ pub(crate) fn sums_of<J: Naming>(parts: &Vec<Witnessed<J>>) -> Sums
 {
     let inserted = inserted_in(parts);
     let held = rows_in(parts);
-    Sums {
+    HistoryTotals {
         accepted: accepted_in(parts),
         inserted,
         deleted: inserted - held,

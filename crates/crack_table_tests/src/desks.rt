@@ -5,7 +5,7 @@ use crate::values::{GREATEST, HUNDRED, ONE, assert_totals, bounds, give_back};
 use crack_commands::push_refusal;
 use crack_core::Core;
 use crack_row::{BoundNumber, GREATEST_LIMIT, Policy, Refusal, Watched};
-use crack_session::{Desk, End, How, Output, serve};
+use crack_session::{Desk, How, Output, SessionEnd, serve};
 use crack_table::{Gate, OpenGate, Table};
 use crack_witness::{Naming, Worker};
 use crack_worker_desk::WorkerDesk;
@@ -106,7 +106,7 @@ fn assert_session<D: Desk>(
     assert_eq!(rt; text.as_slice(), replies);
     drop(text);
     let (how, statements) = end;
-    let told = End {
+    let told = SessionEnd {
         how,
         statements,
         first_short: None,

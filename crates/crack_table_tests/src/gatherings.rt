@@ -192,7 +192,7 @@ fn twin_of<J: Naming>(
     requires { (place : ℕ) (w : WorkerState) → slice_get workers.now.items place ≡ Some w → AreEmpty w.seen }
 {
     let first = workers.first().expect(rt, "a worker");
-    let made = Worker::new(alloc, number, first.front().again(), 2, is_audited);
+    let made = Worker::new(alloc, number, first.seen_events().copy(), 2, is_audited);
     made.expect(rt, "a twin")
 }
 

@@ -3,7 +3,7 @@ ghost use Rattle.std.specs.Prelude.{◌+◌, ◌≤◌, length};
 
 use crate::values::ask;
 use crack_commands::{
-    LONGEST_TEXT, Statement, TEXT_BYTES, parse_statement, push_folded, push_layout_head,
+    LONGEST_TEXT, Statement, TEXT_BYTES, parse_statement, push_checkpoint, push_layout_head,
     push_piece, push_refusal,
 };
 use crack_row::{Command, Layout, Refusal, Reply};
@@ -65,7 +65,7 @@ fn answer<J: Naming, R: Wait + Abort, G: Gate>(
 ) -> Result<Output, Refusal> {
     let mut out = Output::new();
     match statement {
-        Statement::Checkpoint(part) => push_folded(&mut out, table.checkpoint(rt, part)?),
+        Statement::Checkpoint(part) => push_checkpoint(&mut out, table.checkpoint(rt, part)?),
         Statement::Layout(part) => push_layout(rt, part, &table.layout(rt, part)?, &mut out),
         _ => {
             let command = command_of(statement).expect(rt, "a command");

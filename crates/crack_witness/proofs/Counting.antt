@@ -50,26 +50,26 @@ mine_exact w a b h new e p q same is own =
     let all : calls_by w a ≡ calls_by w h = prefix_same (calls_by w a) (calls_by w h) (calls_grow w a h (prefix_trans a b h p q)) same in
     ap (calls_by w) is ∙ (calls_own w h e own ∙ ap (λ (l : List Entry). l ++ e ∷ []) (sym all))
 
-pub counted_at : (own : ℕ → ℕ) (n : ℕ) (fronts : List (List Event)) (counts : List ℕ) (part count : ℕ) (new : List Event) (k : ℕ) (b : Bool) → (part == k) ≡ b
-    → ((q : ℕ) → q < length fronts → slice_index_or counts q 0 ≡ length (calls_at own q n (slice_index_or fronts q []))) → length counts ≡ length fronts → part < length fronts → count ≡ length (calls_at own part n new)
-    → k < length (slice_set fronts part new) → slice_index_or (slice_set counts part count) k 0 ≡ length (calls_at own k n (slice_index_or (slice_set fronts part new) k []))
-counted_at own n fronts counts part count new k true is old all less more less' =
+pub counted_at : (own : ℕ → ℕ) (n : ℕ) (seen_by_part : List (List Event)) (counts : List ℕ) (part count : ℕ) (new : List Event) (k : ℕ) (b : Bool) → (part == k) ≡ b
+    → ((q : ℕ) → q < length seen_by_part → slice_index_or counts q 0 ≡ length (calls_at own q n (slice_index_or seen_by_part q []))) → length counts ≡ length seen_by_part → part < length seen_by_part → count ≡ length (calls_at own part n new)
+    → k < length (slice_set seen_by_part part new) → slice_index_or (slice_set counts part count) k 0 ≡ length (calls_at own k n (slice_index_or (slice_set seen_by_part part new) k []))
+counted_at own n seen_by_part counts part count new k true is old all less more less' =
     let same : part ≡ k = grind (arith, nat_tests) in
-    subst (λ (j : ℕ). slice_index_or (slice_set counts part count) j 0 ≡ length (calls_at own j n (slice_index_or (slice_set fronts part new) j []))) same
-    (get_or-set_same counts part count 0 (omega (arith, all, less)) ∙ (more ∙ ap (λ (l : List Event). length (calls_at own part n l)) (sym (get_or-set_same fronts part new [] less))))
-counted_at own n fronts counts part count new k false is old all less more less' =
+    subst (λ (j : ℕ). slice_index_or (slice_set counts part count) j 0 ≡ length (calls_at own j n (slice_index_or (slice_set seen_by_part part new) j []))) same
+    (get_or-set_same counts part count 0 (omega (arith, all, less)) ∙ (more ∙ ap (λ (l : List Event). length (calls_at own part n l)) (sym (get_or-set_same seen_by_part part new [] less))))
+counted_at own n seen_by_part counts part count new k false is old all less more less' =
     let away : k ≢ part = grind (arith, nat_tests) in
-    get_or-set_other counts part k count 0 away ∙ (old k (omega (arith, less', length-set fronts part new)) ∙ ap (λ (l : List Event). length (calls_at own k n l)) (sym (get_or-set_other fronts part k new [] away)))
+    get_or-set_other counts part k count 0 away ∙ (old k (omega (arith, less', length-set seen_by_part part new)) ∙ ap (λ (l : List Event). length (calls_at own k n l)) (sym (get_or-set_other seen_by_part part k new [] away)))
 
-pub begins_at : (seen : List Event) (fronts : List (List Event)) (part : ℕ) (new : List Event) (k : ℕ) (b : Bool) → (part == k) ≡ b
-    → ((q : ℕ) → q < length fronts → IsPrefix (slice_index_or fronts q []) seen) → IsPrefix seen new → part < length fronts
-    → k < length (slice_set fronts part new) → IsPrefix (slice_index_or (slice_set fronts part new) k []) new
-begins_at seen fronts part new k true is old grows less less' =
+pub begins_at : (seen : List Event) (seen_by_part : List (List Event)) (part : ℕ) (new : List Event) (k : ℕ) (b : Bool) → (part == k) ≡ b
+    → ((q : ℕ) → q < length seen_by_part → IsPrefix (slice_index_or seen_by_part q []) seen) → IsPrefix seen new → part < length seen_by_part
+    → k < length (slice_set seen_by_part part new) → IsPrefix (slice_index_or (slice_set seen_by_part part new) k []) new
+begins_at seen seen_by_part part new k true is old grows less less' =
     let same : part ≡ k = grind (arith, nat_tests) in
-    subst (λ (j : ℕ). IsPrefix (slice_index_or (slice_set fronts part new) j []) new) same (subst (λ (l : List Event). IsPrefix l new) (sym (get_or-set_same fronts part new [] less)) (prefix_self new))
-begins_at seen fronts part new k false is old grows less less' =
+    subst (λ (j : ℕ). IsPrefix (slice_index_or (slice_set seen_by_part part new) j []) new) same (subst (λ (l : List Event). IsPrefix l new) (sym (get_or-set_same seen_by_part part new [] less)) (prefix_self new))
+begins_at seen seen_by_part part new k false is old grows less less' =
     let away : k ≢ part = grind (arith, nat_tests) in
-    subst (λ (l : List Event). IsPrefix l new) (sym (get_or-set_other fronts part k new [] away)) (prefix_trans (slice_index_or fronts k []) seen new (old k (omega (arith, less', length-set fronts part new))) grows)
+    subst (λ (l : List Event). IsPrefix l new) (sym (get_or-set_other seen_by_part part k new [] away)) (prefix_trans (slice_index_or seen_by_part k []) seen new (old k (omega (arith, less', length-set seen_by_part part new))) grows)
 
 pub none_counted : (n : ℕ) → sum_by (λ (k : ℕ). k) (replicate n 0) ≡ 0
 none_counted n = let none = sum_by-replicate (λ (k : ℕ). k) n 0 in omega (arith, none)
@@ -104,26 +104,26 @@ one_received : (receipts : Option (List Receipt)) (r : Receipt) (counts more : L
 one_received None r counts more sum all = tt
 one_received (Some items) r counts more sum all = omega (arith, length-append items (r ∷ []), all, sum)
 
-pub worker_after : (own : ℕ → ℕ) (n : ℕ) (seen : List Event) (fronts : List (List Event)) (counts : List ℕ) (receipts : Option (List Receipt)) (part count : ℕ) (new : List Event) (r : Receipt)
-    → IsWorker own n seen fronts counts receipts → part < length fronts → IsPrefix seen new → count ≡ length (calls_at own part n new) → count ≤ 2 ^ 41 → count ≡ slice_index_or counts part 0 + 1
-    → IsWorker own n new (slice_set fronts part new) (slice_set counts part count) (and_one receipts r)
-worker_after own n seen fronts counts receipts part count new r w less grows more bound one = record {
-  all = length-set counts part count ∙ (w.all ∙ sym (length-set fronts part new));
-  counted = λ k l. counted_at own n fronts counts part count new k (part == k) refl w.counted w.all less more l;
-  begins = λ k l. begins_at seen fronts part new k (part == k) refl w.begins grows less l;
+pub worker_after : (own : ℕ → ℕ) (n : ℕ) (seen : List Event) (seen_by_part : List (List Event)) (counts : List ℕ) (receipts : Option (List Receipt)) (part count : ℕ) (new : List Event) (r : Receipt)
+    → IsWorker own n seen seen_by_part counts receipts → part < length seen_by_part → IsPrefix seen new → count ≡ length (calls_at own part n new) → count ≤ 2 ^ 41 → count ≡ slice_index_or counts part 0 + 1
+    → IsWorker own n new (slice_set seen_by_part part new) (slice_set counts part count) (and_one receipts r)
+worker_after own n seen seen_by_part counts receipts part count new r w less grows more bound one = record {
+  all = length-set counts part count ∙ (w.all ∙ sym (length-set seen_by_part part new));
+  counted = λ k l. counted_at own n seen_by_part counts part count new k (part == k) refl w.counted w.all less more l;
+  begins = λ k l. begins_at seen seen_by_part part new k (part == k) refl w.begins grows less l;
   few = omega (arith, w.few, length-set counts part count);
   small = All-set (λ (k : ℕ). k ≤ 2 ^ 41) counts part count bound w.small;
   received = one_received receipts r counts (slice_set counts part count) (sum_more counts part count (omega (arith, less, w.all)) one) w.received;
 }
 
 -- if a history has as many entries of a worker as the worker counted, they are those of its calls
-pub agree : (own : ℕ → ℕ) (n : ℕ) (seen : List Event) (fronts : List (List Event)) (counts : List ℕ) (receipts : Option (List Receipt)) (part mine theirs : ℕ) (all log : List Event)
-    → IsWorker own n seen fronts counts receipts → part < length counts → mine ≡ slice_index_or counts part 0 → theirs ≡ length (calls_by n (history_of (own part) log)) → mine ≡ theirs
+pub agree : (own : ℕ → ℕ) (n : ℕ) (seen : List Event) (seen_by_part : List (List Event)) (counts : List ℕ) (receipts : Option (List Receipt)) (part mine theirs : ℕ) (all log : List Event)
+    → IsWorker own n seen seen_by_part counts receipts → part < length counts → mine ≡ slice_index_or counts part 0 → theirs ≡ length (calls_by n (history_of (own part) log)) → mine ≡ theirs
     → IsPrefix seen all → IsPrefix (history_of (own part) all) (history_of (own part) log)
-    → calls_at own part n log ≡ calls_at own part n (slice_index_or fronts part [])
-agree own n seen fronts counts receipts part mine theirs all log w less is are same grows begins =
-    let f = slice_index_or fronts part [] in
-    let l : part < length fronts = omega (arith, w.all, less) in
+    → calls_at own part n log ≡ calls_at own part n (slice_index_or seen_by_part part [])
+agree own n seen seen_by_part counts receipts part mine theirs all log w less is are same grows begins =
+    let f = slice_index_or seen_by_part part [] in
+    let l : part < length seen_by_part = omega (arith, w.all, less) in
     let p : IsPrefix (history_of (own part) f) (history_of (own part) log) = prefix_trans (history_of (own part) f) (history_of (own part) all) (history_of (own part) log) (history_grows (own part) f all (prefix_trans f seen all (w.begins part l) grows)) begins in
     sym (prefix_same (calls_by n (history_of (own part) f)) (calls_by n (history_of (own part) log)) (calls_grow n (history_of (own part) f) (history_of (own part) log) p) (omega (arith, w.counted part l, is, are, same)))
 

@@ -1,4 +1,5 @@
--- The events seen of a book, a partition with its scribe, and a worker may go to another thread: level by level.
+-- The events seen of a book, a partition with its history writer, and a worker may go to another thread:
+-- level by level.
 use base.Fml.{ftrue}
 use denote.RattleType.{RattleType}
 use denote.Param.Send.{IsSend, struct_send, sendable}
@@ -13,10 +14,10 @@ use Rattle.crack_part.proofs.Crosses.{command-send, reply-send, partition-send}
 use Rattle.std.proofs.Common.{[]}
 use Rattle.crack_witness.specs.Rules.{IsBookKept}
 use Rattle.crack_witness.specs.declared.opening.Naming.{Ghosts}
-use Rattle.crack_witness.specs.contracts.scribe.Front as Front
-use Rattle.crack_witness.specs.contracts.scribe.Front.TheInside as front
-use Rattle.crack_witness.specs.contracts.scribe.Scribe as Scribe
-use Rattle.crack_witness.specs.contracts.scribe.Scribe.TheInside as scribe
+use Rattle.crack_witness.specs.contracts.history_writer.SeenEvents as SeenEvents
+use Rattle.crack_witness.specs.contracts.history_writer.SeenEvents.TheInside as seen_events
+use Rattle.crack_witness.specs.contracts.history_writer.HistoryWriter as HistoryWriter
+use Rattle.crack_witness.specs.contracts.history_writer.HistoryWriter.TheInside as history_writer
 use Rattle.crack_witness.specs.contracts.witnessed.Witnessed as Witnessed
 use Rattle.crack_witness.specs.contracts.witnessed.Witnessed.TheInside as inside
 use Rattle.crack_witness.specs.contracts.worker.Worker as Worker
@@ -32,24 +33,24 @@ receipt-send = struct_send (shape Receipt.the_type) (search sendable depth 30, (
 
 module _ (J : RattleType) (g : Ghosts J.Denot) (s : IsSend J) where
   -- seen, of
-  front-inside : IsSend (front.the_field J g).row
-  front-inside = struct_send (shape (front.the_type J g)) (seen.the_send _ _ _ (record { holds = λ cells log. IsBookKept cells log; first = []; hinted = λ n log. Unit {0}; shows = λ log. []; keeps = λ names log. ftrue; moves = λ ask before after answer. Unit {0} }), (search (sendable, crosses) depth 30, tt))
+  seen_events-inside : IsSend (seen_events.the_field J g).row
+  seen_events-inside = struct_send (shape (seen_events.the_type J g)) (seen.the_send _ _ _ (record { holds = λ cells log. IsBookKept cells log; first = []; hinted = λ n log. Unit {0}; shows = λ log. []; keeps = λ names log. ftrue; moves = λ ask before after answer. Unit {0} }), (search (sendable, crosses) depth 30, tt))
 
-  pub front-send : IsSend (Front.the_row J g)
-  front-send = let i = front-inside in search (sendable, crosses) depth 30
+  pub seen_events-send : IsSend (SeenEvents.the_row J g)
+  seen_events-send = let i = seen_events-inside in search (sendable, crosses) depth 30
 
   -- part, word, pen, seen, of
-  scribe-inside : IsSend (scribe.the_field J g).row
-  scribe-inside = struct_send (shape (scribe.the_type J g)) (search (sendable, crosses) depth 30, (search (sendable, crosses, word.the_send) depth 30, (pen.the_send, (seen.the_send _ _ _ (record { holds = λ cells log. IsBookKept cells log; first = []; hinted = λ n log. Unit {0}; shows = λ log. []; keeps = λ names log. ftrue; moves = λ ask before after answer. Unit {0} }), (search (sendable, crosses) depth 30, tt)))))
+  history_writer-inside : IsSend (history_writer.the_field J g).row
+  history_writer-inside = struct_send (shape (history_writer.the_type J g)) (search (sendable, crosses) depth 30, (search (sendable, crosses, word.the_send) depth 30, (pen.the_send, (seen.the_send _ _ _ (record { holds = λ cells log. IsBookKept cells log; first = []; hinted = λ n log. Unit {0}; shows = λ log. []; keeps = λ names log. ftrue; moves = λ ask before after answer. Unit {0} }), (search (sendable, crosses) depth 30, tt)))))
 
-  scribe-send : IsSend (Scribe.the_row J g)
-  scribe-send = let i = scribe-inside in search (sendable, crosses) depth 30
+  history_writer-send : IsSend (HistoryWriter.the_row J g)
+  history_writer-send = let i = history_writer-inside in search (sendable, crosses) depth 30
 
-  -- partition, scribe, answered, entries
+  -- partition, history writer, answered, entries
   witnessed-inside : IsSend (inside.the_field J g).row
   witnessed-inside =
       let p = partition-send in
-      let w = scribe-send in
+      let w = history_writer-send in
       let e = entry-send in
       struct_send (shape (inside.the_type J g)) (search (sendable, crosses) depth 30, (search (sendable, crosses) depth 30, (search (sendable, crosses) depth 30, (search (sendable, crosses) depth 30, tt))))
 
@@ -59,7 +60,7 @@ module _ (J : RattleType) (g : Ghosts J.Denot) (s : IsSend J) where
   -- number, front, fronts, counts, receipts
   worker-inside : IsSend (worker.the_field J g).row
   worker-inside =
-      let f = front-send in
+      let f = seen_events-send in
       let r = receipt-send in
       struct_send (shape (worker.the_type J g)) (search (sendable, crosses) depth 30, (search (sendable, crosses) depth 30, (search (sendable, crosses) depth 30, (search (sendable, crosses) depth 30, (search (sendable, crosses) depth 30, tt)))))
 

@@ -9,8 +9,8 @@ use Rattle.crack_row.specs.declared.command.Reply.{Reply}
 use Rattle.crack_row.specs.declared.limit.Limits.{Limits}
 use Rattle.crack_row.specs.declared.refusal.Refusal.{Refusal}
 use Rattle.crack_row.specs.declared.refusal.Refusal.TheVariants.{OutOfMemory}
-use Rattle.crack_plain.specs.Plain.{PlainState, PlainView, no_rows, after, accepted_of, checkpointed}
-use Rattle.crack_plain.specs.Past.{Base, Past, no_base, state_after, base_after, folded}
+use Rattle.crack_plain.specs.Plain.{PlainState, PlainView, no_rows, after, accepted_of, checkpointed_table}
+use Rattle.crack_plain.specs.Past.{Base, Past, no_base, state_after, base_after, checkpointed_past}
 use Rattle.crack_plain.specs.Totals.{inserted, deleted}
 use Rattle.crack_plain.proofs.Words.{replay_from}
 use Rattle.crack_plain.proofs.Laws.{replay_from-append, replay_from-push}
@@ -28,16 +28,16 @@ IsPastOf-push h limits table e k = record {
 }
 
 -- a checkpoint
-pub IsPastOf-checkpointed : (h : List Entry) (table : PlainView) → IsPastOf h table → IsPastOf h (checkpointed table)
+pub IsPastOf-checkpointed : (h : List Entry) (table : PlainView) → IsPastOf h table → IsPastOf h (checkpointed_table table)
 IsPastOf-checkpointed h table k = record { rows = k.rows; all = omega (arith, k.all) }
 
 -- the plain rows are those after the past into which the last checkpoint divides the history
 pub state-divided : (h : List Entry) (table : PlainView) → IsPastOf h table → state_after (past_in h table) ≡ table.state
 state-divided h table k =
-    sym (replay_from-append no_rows (take table.folded h) (drop table.folded h)) ∙ (ap (replay_from no_rows) (take-append-drop table.folded h) ∙ sym k.rows)
+    sym (replay_from-append no_rows (take table.checkpointed h) (drop table.checkpointed h)) ∙ (ap (replay_from no_rows) (take-append-drop table.checkpointed h) ∙ sym k.rows)
 
 abbrev pub base_of : PlainState → ℕ → ℕ → ℕ → Base
-base_of state folded placed gone = record { state = state; folded = folded; placed = placed; gone = gone }
+base_of state checkpointed placed gone = record { state = state; checkpointed = checkpointed; placed = placed; gone = gone }
 
 pub same_base : (s t : PlainState) (a b c d e f : ℕ) → s ≡ t → a ≡ b → c ≡ d → e ≡ f → base_of s a c e ≡ base_of t b d f
 same_base s t a b c d e f p q r u = λ i. base_of (p i) (q i) (r i) (u i)
@@ -71,13 +71,13 @@ past_with base tail = record { base = base; tail = tail }
 pub same_past : (a b : Base) (xs ys : List Entry) → a ≡ b → xs ≡ ys → past_with a xs ≡ past_with b ys
 same_past a b xs ys p q = λ i. past_with (p i) (q i)
 
--- a checkpoint divides the history at its end: its entries so far are folded into the base
-pub folded-checkpointed : (h : List Entry) (table : PlainView) → IsPastOf h table → past_in h (checkpointed table) ≡ folded (past_in h table)
-folded-checkpointed h table k =
+-- a checkpoint divides the history at its end: its entries so far are merged into the base
+pub past_in-checkpointed : (h : List Entry) (table : PlainView) → IsPastOf h table → past_in h (checkpointed_table table) ≡ checkpointed_past (past_in h table)
+past_in-checkpointed h table k =
     let all : accepted_of table ≡ length h = k.all in
-    let first = take table.folded h in
-    let rest = drop table.folded h in
-    let whole : take (accepted_of table) h ≡ first ++ rest = take-whole h (accepted_of table) all ∙ sym (take-append-drop table.folded h) in
+    let first = take table.checkpointed h in
+    let rest = drop table.checkpointed h in
+    let whole : take (accepted_of table) h ≡ first ++ rest = take-whole h (accepted_of table) all ∙ sym (take-append-drop table.checkpointed h) in
     same_past
     (base_after (record { base = no_base; tail = take (accepted_of table) h }))
     (base_after (past_in h table))

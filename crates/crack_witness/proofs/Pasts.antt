@@ -16,8 +16,8 @@ use Rattle.crack_row.specs.declared.command.Entry.{Entry}
 use Rattle.crack_row.specs.declared.limit.Limits.{Limits}
 use Rattle.crack_row.specs.declared.refusal.Refusal.{Refusal}
 use Rattle.crack_row.specs.declared.refusal.Refusal.TheVariants.{KeyOutside, NoCell}
-use Rattle.crack_plain.specs.Plain.{PlainState, PlainView, no_rows, after, accepted_of, checkpointed, AreReplies}
-use Rattle.crack_plain.specs.Past.{Base, Past, no_base, no_past, state_after, base_after, inserted_in, folded, with_entry, IsLegal}
+use Rattle.crack_plain.specs.Plain.{PlainState, PlainView, no_rows, after, accepted_of, checkpointed_table, AreReplies}
+use Rattle.crack_plain.specs.Past.{Base, Past, no_base, no_past, state_after, base_after, inserted_in, checkpointed_past, with_entry, IsLegal}
 use Rattle.crack_plain.proofs.Words.{replay_from, StandWithin, IsWithin, BringWithin}
 use Rattle.crack_plain.proofs.PastLaws.{IsBase-no_base, IsBase-after, next-after_past, length_rows-after_past}
 use Rattle.crack_part.specs.Cells.{is_without_cell}
@@ -70,24 +70,24 @@ stand-replayed keys s (e ∷ es) stand within =
     stand-replayed keys (after s e.command) es (stand-after keys s e.command stand (within 0 e (omega arith))) (λ k d less. within (suc k) d (omega (arith, less)))
 
 -- the entries since the last checkpoint are as many as the partition counts
-tail-since : (h : List Entry) (table : PlainView) → IsPastOf h table → length (drop table.folded h) ≡ table.since
-tail-since h table k = omega (arith, length-drop table.folded h, k.all)
+tail-since : (h : List Entry) (table : PlainView) → IsPastOf h table → length (drop table.checkpointed h) ≡ table.since
+tail-since h table k = omega (arith, length-drop table.checkpointed h, k.all)
 
 -- a history is as long as its two parts
-parts-all : (h : List Entry) (table : PlainView) → IsPastOf h table → length (take table.folded h) + length (drop table.folded h) ≡ accepted_of table
-parts-all h table k = omega (arith, length-append (take table.folded h) (drop table.folded h), ap length (take-append-drop table.folded h), k.all)
+parts-all : (h : List Entry) (table : PlainView) → IsPastOf h table → length (take table.checkpointed h) + length (drop table.checkpointed h) ≡ accepted_of table
+parts-all h table k = omega (arith, length-append (take table.checkpointed h) (drop table.checkpointed h), ap length (take-append-drop table.checkpointed h), k.all)
 
 -- the past into which the history is divided
 pub IsLegal-divided : (keys : Range) (limits : Limits) (h : List Entry) (table : PlainView) → IsPastOf h table → AreReplies no_rows h → BringWithin keys h → table.since ≤ limits.history → accepted_of table ≤ limits.life → IsLegal keys limits (past_in h table)
 IsLegal-divided keys limits h table k replies within since lived =
-    let first = take table.folded h in
-    let rest = drop table.folded h in
-    let both = replies-divided no_rows first rest (subst (AreReplies no_rows) (sym (take-append-drop table.folded h)) replies) in
+    let first = take table.checkpointed h in
+    let rest = drop table.checkpointed h in
+    let both = replies-divided no_rows first rest (subst (AreReplies no_rows) (sym (take-append-drop table.checkpointed h)) replies) in
     record {
       base = IsBase-after (record { base = no_base; tail = first }) IsBase-no_base both.0;
-      stand = stand-replayed keys no_rows first (All-nil _) (All-take (λ (e : Entry). IsWithin keys e.command) table.folded h within);
+      stand = stand-replayed keys no_rows first (All-nil _) (All-take (λ (e : Entry). IsWithin keys e.command) table.checkpointed h within);
       replies = both.1;
-      within = All-drop (λ (e : Entry). IsWithin keys e.command) table.folded h within;
+      within = All-drop (λ (e : Entry). IsWithin keys e.command) table.checkpointed h within;
       limited = omega (arith, tail-since h table k, since);
       lived = omega (arith, parts-all h table k, lived);
     }
@@ -111,16 +111,16 @@ base_with es = base_after (record { base = no_base; tail = es })
 
 -- one more entry is added to the past, by whether a checkpoint comes first
 divided-tested : (b : Bool) (h : List Entry) (table : PlainView) (state : PlainState) (e : Entry) → IsPastOf h table
-    → past_in (h ++ e ∷ []) (record { state = state; folded = (if b then checkpointed table else table).folded; since = (if b then checkpointed table else table).since + 1 }) ≡ with_entry (if b then folded (past_in h table) else past_in h table) e
+    → past_in (h ++ e ∷ []) (record { state = state; checkpointed = (if b then checkpointed_table table else table).checkpointed; since = (if b then checkpointed_table table else table).since + 1 }) ≡ with_entry (if b then checkpointed_past (past_in h table) else past_in h table) e
 divided-tested true h table state e k =
     let n = accepted_of table in
-    let first = take table.folded h in
-    let rest = drop table.folded h in
-    let taken : take n (h ++ e ∷ []) ≡ first ++ rest = ap (λ (i : ℕ). take i (h ++ e ∷ [])) k.all ∙ (take-append_seam h (e ∷ []) ∙ sym (take-append-drop table.folded h)) in
+    let first = take table.checkpointed h in
+    let rest = drop table.checkpointed h in
+    let taken : take n (h ++ e ∷ []) ≡ first ++ rest = ap (λ (i : ℕ). take i (h ++ e ∷ [])) k.all ∙ (take-append_seam h (e ∷ []) ∙ sym (take-append-drop table.checkpointed h)) in
     let left : drop n (h ++ e ∷ []) ≡ e ∷ [] = ap (λ (i : ℕ). drop i (h ++ e ∷ [])) k.all ∙ drop-append_seam h (e ∷ []) in
     same_past (base_with (take n (h ++ e ∷ []))) (base_after (past_in h table)) (drop n (h ++ e ∷ [])) (e ∷ []) (ap base_with taken ∙ base-whole first rest) left
 divided-tested false h table state e k =
-    let n = table.folded in
+    let n = table.checkpointed in
     let within : n ≤ length h = omega (arith, k.all) in
     same_past (base_with (take n (h ++ e ∷ []))) (base_with (take n h)) (drop n (h ++ e ∷ [])) (drop n h ++ e ∷ []) (ap base_with (take-append-le n h (e ∷ []) within)) (drop-append-le n h (e ∷ []) within)
 
@@ -128,15 +128,15 @@ divided-tested false h table state e k =
 pub divided-answered : (h : List Entry) (limits : Limits) (table : PlainView) (e : Entry) → IsPastOf h table → past_in (h ++ e ∷ []) (answered limits table e.command) ≡ with_entry (upkept_past limits (past_in h table)) e
 divided-answered h limits table e k =
     let past = past_in h table in
-    divided-tested (is_due limits table.since) h table (after table.state e.command) e k ∙ ap (λ (n : ℕ). with_entry (if is_due limits n then folded past else past) e) (sym (tail-since h table k))
+    divided-tested (is_due limits table.since) h table (after table.state e.command) e k ∙ ap (λ (n : ℕ). with_entry (if is_due limits n then checkpointed_past past else past) e) (sym (tail-since h table k))
 
 -- if there is room, no checkpoint is due
 pub upkept-room : (limits : Limits) (past : Past) → length past.tail < limits.history → upkept_past limits past ≡ past
-upkept-room limits past room = ap (λ (b : Bool). cond (b && is_automatic limits.upkeep) (folded past) past) (lt-leb limits.history (length past.tail) room)
+upkept-room limits past room = ap (λ (b : Bool). cond (b && is_automatic limits.upkeep) (checkpointed_past past) past) (lt-leb limits.history (length past.tail) room)
 
 -- the past of a partition that has answered nothing
 pub no_past-divided : (table : PlainView) → past_in [] table ≡ no_past
-no_past-divided table = rw (taken table.folded, left table.folded) refl
+no_past-divided table = rw (taken table.checkpointed, left table.checkpointed) refl
   where
     taken : (n : ℕ) → ◌≡◌ {A = List Entry} (take n []) []
     taken zero = refl

@@ -4,7 +4,7 @@ use Rattle.std.specs.Prelude.{◌≡◌, ◌≢◌, ℕ, ◌==◌, List, [], ◌
 use Rattle.crack_row.specs.declared.command.Entry.{Entry}
 use Rattle.crack_row.specs.declared.limit.Limits.{Limits}
 use Rattle.crack_plain.specs.Plain.{PlainView, AreReplies, no_rows, accepted_of}
-use Rattle.crack_plain.specs.Past.{Past, no_base, base_after, state_after, folded}
+use Rattle.crack_plain.specs.Past.{Past, no_base, base_after, state_after, checkpointed_past}
 use Rattle.crack_part.specs.Upkeep.{is_due}
 use Rattle.crack_witness.specs.declared.event.Event.{Event}
 
@@ -38,8 +38,8 @@ pub record IsPastOf (history : List Entry) (table : PlainView) : Type 0 where
 -- the past of a plain table that has answered a history: the commands up to the last checkpoint make its base, and
 -- the rest is its tail
 abbrev pub past_in : List Entry → PlainView → Past
-past_in history table = record { base = base_after (record { base = no_base; tail = take table.folded history }); tail = drop table.folded history }
+past_in history table = record { base = base_after (record { base = no_base; tail = take table.checkpointed history }); tail = drop table.checkpointed history }
 
 -- the past to which the next entry is added: after a checkpoint, if one is due
 abbrev pub upkept_past : Limits → Past → Past
-upkept_past limits past = if is_due limits (length past.tail) then folded past else past
+upkept_past limits past = if is_due limits (length past.tail) then checkpointed_past past else past

@@ -1,5 +1,5 @@
 -- What private clauses alone cite.
--- The invariants of scribes, owners and workers.
+-- The invariants of history writers, owners and workers.
 use Rattle.std.specs.Global.{Vec}
 use Rattle.std.specs.Prelude.{ℕ, Option, IfSome, vec_len, vec_capacity, slice_index_or, ◌≡◌, ◌⊎◌, ◌<◌, ◌≤◌, ◌^◌, All, List, [], ◌∷◌, ◌++◌, length, sum_by, true}
 use mathlib.Core.List.{IsPrefix}
@@ -34,9 +34,9 @@ HasWord k log = Among (λ (e : Event). e.word ≡ k) log
 abbrev pub named : Book → ℕ → Named
 named b k = record { tracked = true; key = k; book = b }
 
--- the invariant of a scribe of this owner: the last event seen is the owner's, at the scribe's word, and names the
--- pen's cell
-pub record IsScribe (b : Book) (owner : ℕ) (word : Named) (pen : Book) (key : ℕ) (right : Right) (seen : Book) (log : List Event) : Type 0 where
+-- the invariant of a history writer of this owner: the last event seen is the owner's, at the history writer's word,
+-- and names the pen's cell
+pub record IsHistoryWriter (b : Book) (owner : ℕ) (word : Named) (pen : Book) (key : ℕ) (right : Right) (seen : Book) (log : List Event) : Type 0 where
   pub word_is : word ≡ named b word.key
   pub pen_is : pen ≡ b
   pub right_is : right ≡ may_write
@@ -74,10 +74,10 @@ AreWithin keys es = All (λ (e : Entry). IfSome (key_of e.command) (λ (key : Ke
 -- A worker counts its entries at each partition, among the events that it had seen after its last reply there, which
 -- begin those that it has seen now. There are at most 64 partitions, and each count is at most 2 ^ 41. With an audit
 -- there is a receipt for each reply.
-pub record IsWorker (owner : ℕ → ℕ) (worker : ℕ) (seen : List Event) (fronts : List (List Event)) (counts : List ℕ) (receipts : Option (List Receipt)) : Type 0 where
-  pub all : length counts ≡ length fronts
+pub record IsWorker (owner : ℕ → ℕ) (worker : ℕ) (seen : List Event) (seen_by_part : List (List Event)) (counts : List ℕ) (receipts : Option (List Receipt)) : Type 0 where
+  pub all : length counts ≡ length seen_by_part
   pub few : length counts ≤ 64
   pub small : All (λ (count : ℕ). count ≤ 2 ^ 41) counts
-  pub counted : (part : ℕ) → part < length fronts → slice_index_or counts part 0 ≡ length (calls_at owner part worker (slice_index_or fronts part []))
-  pub begins : (part : ℕ) → part < length fronts → IsPrefix (slice_index_or fronts part []) seen
+  pub counted : (part : ℕ) → part < length seen_by_part → slice_index_or counts part 0 ≡ length (calls_at owner part worker (slice_index_or seen_by_part part []))
+  pub begins : (part : ℕ) → part < length seen_by_part → IsPrefix (slice_index_or seen_by_part part []) seen
   pub received : IfSome receipts (λ (items : List Receipt). length items ≡ sum_by (λ (n : ℕ). n) counts)

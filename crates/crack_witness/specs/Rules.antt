@@ -69,8 +69,8 @@ Adds s v found w = (log : List Event) × (w.0 ≡ log ++ s.ask ∷ []) × IsPref
 abbrev pub Looks : Step Event → View Event ℕ → ℕ → View Event ℕ → Type 0
 Looks s v found w = (w.1.0 ≡ v.1.0) × ((owner : ℕ) → IsAlone owner v.1.0.key w.0)
 
--- what contracts see of a scribe: its partition's number, and the events that it has seen
-pub record ScribeState : Type 0 where
+-- what contracts see of a history writer: its partition's number, and the events that it has seen
+pub record HistoryWriterState : Type 0 where
   pub part : ℕ
   pub log : List Event
 

@@ -34,8 +34,8 @@ pub record AreNames (book : Book) (owner : ℕ → ℕ) (opened : OpenedState) :
 abbrev pub OwnersDiffer : (ℕ → ℕ) → ℕ → Type 0
 OwnersDiffer owner count = (one other : ℕ) → one < other → other < count → owner one ≢ owner other
 
--- a partition with its number, the events that its scribe has seen, the number of workers whose entries it counts,
--- and the list of its entries, if there is an audit
+-- a partition with its number, the events that its history writer has seen, the number of workers whose
+-- entries it counts, and the list of its entries, if there is an audit
 pub record WitnessedState : Type 0 where
   pub part : ℕ
   pub log : List Event
@@ -99,7 +99,7 @@ MayRefuseIt owner w worker count command e =
 pub record WorkerState : Type 0 where
   pub worker : ℕ
   pub seen : List Event
-  pub fronts : List (List Event)
+  pub seen_by_part : List (List Event)
   pub counts : List ℕ
   pub receipts : Option (List Receipt)
 
@@ -107,7 +107,7 @@ pub record WorkerState : Type 0 where
 pub record IsNewWorker (number parts : ℕ) (audited : Bool) (a : WorkerState) : Type 0 where
   pub worker_is : a.worker ≡ number
   pub unseen : AreEmpty a.seen
-  pub fronts_are : a.fronts ≡ replicate parts a.seen
+  pub seen_by_part_are : a.seen_by_part ≡ replicate parts a.seen
   pub counts_are : a.counts ≡ replicate parts 0
   pub receipts_are : a.receipts ≡ empty_list audited
 
@@ -120,18 +120,18 @@ pub record IsGiven (owner : ℕ → ℕ) (part : ℕ) (entry : Entry) (old new :
 
 -- a partition's history has exactly the entries of a worker for which it received replies
 abbrev pub HasJustItsOwn : (ℕ → ℕ) → WorkerState → WitnessedState → Type 0
-HasJustItsOwn owner a w = calls_at owner w.part a.worker w.log ≡ calls_at owner w.part a.worker (slice_index_or a.fronts w.part [])
+HasJustItsOwn owner a w = calls_at owner w.part a.worker w.log ≡ calls_at owner w.part a.worker (slice_index_or a.seen_by_part w.part [])
 
 -- what a worker has seen of a partition's history is a prefix of it, and the history has exactly the worker's
 -- entries for which it received replies
 pub record HasSeen (owner : ℕ → ℕ) (a : WorkerState) (w : WitnessedState) : Type 0 where
   pub covered : IsPrefix (history_of (owner w.part) a.seen) (history_of (owner w.part) w.log)
-  pub mine : calls_at owner w.part a.worker w.log ≡ calls_at owner w.part a.worker (slice_index_or a.fronts w.part [])
+  pub mine : calls_at owner w.part a.worker w.log ≡ calls_at owner w.part a.worker (slice_index_or a.seen_by_part w.part [])
 
 -- a partition's history doesn't have exactly the entries of a worker for which it received replies, or one doesn't
 -- know of the other
 abbrev pub Differs : (ℕ → ℕ) → WorkerState → WitnessedState → Type 0
-Differs owner a w = w.part < length a.fronts → a.worker < w.workers → HasJustItsOwn owner a w → ⊥
+Differs owner a w = w.part < length a.seen_by_part → a.worker < w.workers → HasJustItsOwn owner a w → ⊥
 
 -- the number of a worker's replies from partition `part`
 abbrev pub replies_at : WorkerState → ℕ → ℕ
@@ -148,7 +148,7 @@ KnowsHistory owner a part w = (w.part ≡ part) × IsInStep owner w a.worker (re
 -- as the partition refuses the command.
 abbrev pub MayRefuseAt : (ℕ → ℕ) → WitnessedState → ℕ → Command → WorkerState → Refusal → Type 0
 MayRefuseAt owner w part command a e =
-    ((e ≡ NoSuchPartition) × (length a.fronts ≤ part))
+    ((e ≡ NoSuchPartition) × (length a.seen_by_part ≤ part))
     ⊎ (((e ≡ StrangeReceipt part (replies_at a part)) × (KnowsHistory owner a part w → ⊥))
     ⊎ ((e ≡ OutOfMemory) ⊎ (refusal_of w.held command ≡ Some e)))
 

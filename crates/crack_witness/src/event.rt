@@ -56,9 +56,9 @@ pub(crate) type Head = Word<Event, u64, Law>;
 pub(crate) type Update = Offer<Event, u64, Law, Nothing>;
 
 /// The first events of a new book, one for each word.
-pub struct Row;
+pub struct FirstEvents;
 
-impl Opening<u64, Event> for Row {
+impl Opening<u64, Event> for FirstEvents {
     ghost use Rattle.crack_witness.specs.Rules.{row};
 
     ghost log = { λ count x. row count };

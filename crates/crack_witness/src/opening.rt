@@ -7,8 +7,8 @@ ghost use Rattle.crack_witness.specs.Witnesses.{AreDistinct, AreNames, OwnersDif
 ghost use Rattle.crack_witness.specs.Rules.{row, NoneOf};
 ghost use Rattle.crack_witness.specs.Keeps.{HasWord, HasOwner, IsNew, AreOwners};
 
-use crate::event::{Head, Law, Nothing, Open, Row, Token, Update};
-use crate::scribe::Front;
+use crate::event::{FirstEvents, Head, Law, Nothing, Open, Token, Update};
+use crate::history_writer::SeenEvents;
 use crate::witnessed::Witnessed;
 use crack_part::Partition;
 use logbook::{Pen, Pens, Start};
@@ -33,7 +33,7 @@ impl Naming for Brand {
     ghost owner = { λ part. 0 };
 }
 
-/// An owner in a book: what its scribe is made of, for one partition without entries.
+/// An owner in a book: what its history writer is made of, for one partition without entries.
 #[derive(Drop)]
 pub(crate) struct Owner {
     pub(crate) word: Head,
@@ -44,13 +44,13 @@ pub(crate) struct Owner {
 impl Model for Owner {
     ghost use Rattle.crack_witness.specs.Histories.{AreHistories};
     ghost use Rattle.crack_witness.specs.Rules.{OwnerState};
-    ghost use Rattle.crack_witness.specs.Keeps.{IsScribe};
+    ghost use Rattle.crack_witness.specs.Keeps.{IsHistoryWriter};
 
     ghost Value = { OwnerState };
 
     ghost view = { λ o. record { book = o.seen.book; id = o.pen.nib.key; log = o.seen.log } };
 
-    ghost invariant = { λ o. IsScribe o.seen.book o.pen.nib.key o.word o.pen.book o.pen.nib.key o.pen.nib.right
+    ghost invariant = { λ o. IsHistoryWriter o.seen.book o.pen.nib.key o.word o.pen.book o.pen.nib.key o.pen.nib.right
         o.seen.book o.seen.log × AreHistories o.seen.log };
 }
 
@@ -111,7 +111,11 @@ impl Opened {
         ensures count { IfOk result (λ o. length o.ids ≡ count) }
         ensures distinct { IfOk result (λ o. AreDistinct o.ids) }
     {
-        let (seen, mut pens) = Token::open_row::<u64, Row>(&0, Start::alone(), count as usize);
+        let (seen, mut pens) = Token::open_row::<u64, FirstEvents>(
+            &0,
+            Start::alone(),
+            count as usize,
+        );
         let mut latest = seen.again();
         let mut owners = Vec::with_capacity(alloc, count as usize)?;
         'owners: for number in 0..count {
@@ -122,38 +126,38 @@ impl Opened {
     }
 
     /// Gives the book its name `J`. Returns the events that a worker begins with, and the partitions with their
-    /// scribes, in order. Each partition counts the entries of this many workers, and with an audit keeps a list of
-    /// all its entries. Refused if no memory is found. O(partitions × workers).
+    /// history writers, in order. Each partition counts the entries of this many workers, and with an audit
+    /// keeps a list of all its entries. Refused if no memory is found. O(partitions × workers).
     pub fn witness<J: Naming>(
         self,
         alloc: Global,
         partitions: Vec<Partition>,
         workers: u32,
         is_audited: bool,
-    ) -> Result<(Front<J>, Vec<Witnessed<J>>), AllocError>
+    ) -> Result<(SeenEvents<J>, Vec<Witnessed<J>>), AllocError>
         requires names { AreNames J.book J.owner self }
         requires new { All (λ (part : Part). IsPastOf [] (table_of part)) partitions.items }
         requires count { length partitions.items ≡ length self.ids }
-        ensures front { IfOk result (λ r. AreEmpty r.0) }
+        ensures seen_events { IfOk result (λ r. AreEmpty r.0) }
         ensures parts { IfOk result (λ r. AreNewFrom J.owner workers is_audited 0 partitions.items r.1.items) }
         ensures apart { OwnersDiffer J.owner (length partitions.items) }
     {
-        let (front, mut owners) = self.named::<J>();
+        let (seen_events, mut owners) = self.named::<J>();
         let mut partitions = partitions;
         let witnessed = witness_each(alloc, &mut owners, &mut partitions, workers, is_audited)?;
-        Ok((front, witnessed))
+        Ok((seen_events, witnessed))
     }
 
     /// Gives the book its name `J`. Returns the events that a worker begins with, and the owners, in order.
-    fn named<J: Naming>(self) -> (Front<J>, Vec<Owner>)
+    fn named<J: Naming>(self) -> (SeenEvents<J>, Vec<Owner>)
         requires { AreNames J.book J.owner self }
         ensures owners { AreOwners J.book J.owner result.1.items }
         ensures count { (length result.1.items ≡ length self.ids) × (length result.1.items < 2 ^ 32) }
-        ensures front { AreEmpty result.0 }
+        ensures seen_events { AreEmpty result.0 }
         ensures apart { OwnersDiffer J.owner (length self.ids) }
     {
         let Opened { seen, owners } = self;
-        (Front::new(seen), owners)
+        (SeenEvents::new(seen), owners)
     }
 }
 
@@ -174,8 +178,8 @@ fn next_owner(pens: &mut Pens, seen: &mut Token) -> Owner
     Owner::open(word, seen)
 }
 
-/// Joins each partition with the scribe of its owner, in order, and leaves both lists empty. Refused if no memory is
-/// found.
+/// Joins each partition with the history writer of its owner, in order, and leaves both lists empty. Refused if
+/// no memory is found.
 fn witness_each<J: Naming>(
     alloc: Global,
     owners: &mut Vec<Owner>,

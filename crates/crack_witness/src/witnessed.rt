@@ -1,11 +1,11 @@
-//! What a lock holds: a partition, and the scribe of its history.
+//! What a lock holds: a partition, and the history writer of its history.
 ghost use Rattle.std.specs.Prelude.{◌≡◌, ◌⊎◌, ◌+◌, ◌<◌, ◌≤◌, [], ◌∷◌, ◌++◌, length, vec_len, IfOk, IfErr, IfSome};
 ghost use Rattle.std.specs.Prelude.{IsTrue, OnErr, OnOk, Err, None, ◌≢◌, ◌↔◌, ◌^◌, slice_index_or};
 ghost use mathlib.Core.List.{IsPrefix};
-ghost use Rattle.crack_plain.specs.Past.{folded, no_past, state_after, with_entry};
+ghost use Rattle.crack_plain.specs.Past.{checkpointed_past, no_past, state_after, with_entry};
 ghost use Rattle.std.specs.Prelude.{MatchOption, Some};
 ghost use Rattle.crack_plain.specs.Plain.{IsSmall, accepted_of, reply_to};
-ghost use Rattle.crack_part.specs.Parts.{IsSound, IsFaithful, state_of, table_of, folded_part, Serves, Spares};
+ghost use Rattle.crack_part.specs.Parts.{IsSound, IsFaithful, state_of, table_of, checkpointed_part, Serves, Spares};
 ghost use Rattle.crack_part.specs.Refusals.{refusal_of};
 ghost use Rattle.crack_part.specs.Upkeep.{answered};
 ghost use Rattle.crack_witness.specs.Audits.{listed, and_one};
@@ -13,21 +13,21 @@ ghost use Rattle.crack_witness.specs.Histories.{history_of, calls_by, AreHistori
 ghost use Rattle.crack_witness.specs.Witnesses.{IsWhole, IsNewAt, IsInStep, MayRefuseIt, HasTotals, past_of};
 ghost use Rattle.crack_witness.specs.Keeps.{IsOwnerAt};
 
+use crate::history_writer::{HistoryWriter, SeenEvents};
 use crate::listing::{apply_listed, list_for};
 use crate::opening::{Naming, Owner};
 use crate::receipt::Receipt;
-use crate::scribe::{Front, Scribe};
 use crack_part::Partition;
 use crack_row::{Command, Entry, Policy, Refusal, Reply};
 use std::alloc::{AllocError, Global};
 use std::marker::Model;
 
-/// A partition, the scribe of its history since it was opened, and the number of each worker's entries there. The
-/// history has no bytes, except the list of an audit, which grows by 80 bytes for each entry. Contracts see the
-/// partition, its number, the events that the scribe has seen, and that list.
+/// A partition, the history writer of its history since it was opened, and the number of each worker's
+/// entries there. The history has no bytes, except the list of an audit, which grows by 80 bytes for each entry.
+/// Contracts see the partition, its number, the events that the history writer has seen, and that list.
 pub struct Witnessed<J: Naming> {
     partition: Partition,
-    scribe: Scribe<J>,
+    history_writer: HistoryWriter<J>,
     answered: Vec<u64>,
     entries: Option<Vec<Entry>>,
 }
@@ -37,12 +37,12 @@ impl<J: Naming> Drop for Witnessed<J> {
     fn drop(self) {
         let Witnessed {
             partition,
-            scribe,
+            history_writer,
             answered,
             entries,
         } = self;
         drop(partition);
-        drop(scribe);
+        drop(history_writer);
         drop(answered);
         drop(entries);
     }
@@ -60,23 +60,24 @@ impl<J: Naming> Model for Witnessed<J> {
     ghost Value = { WitnessedState };
 
     ghost view = { λ w. record {
-      part = w.scribe.part;
-      log = w.scribe.log;
+      part = w.history_writer.part;
+      log = w.history_writer.log;
       held = w.partition;
       workers = length w.answered.items;
       entries = listed w.entries;
     } };
 
-    ghost invariant = { λ w. IsPastOf (history_of (J.owner w.scribe.part) w.scribe.log) (table_of w.partition) ×
-        AreCounts w.answered.items (history_of (J.owner w.scribe.part) w.scribe.log) ×
-        All (λ (e : Entry). e.worker < length w.answered.items) (history_of (J.owner w.scribe.part) w.scribe.log) ×
-        IfSome (listed w.entries) (λ entries. entries ≡ history_of (J.owner w.scribe.part) w.scribe.log) ×
-        AreWithin w.partition.keys (history_of (J.owner w.scribe.part) w.scribe.log) };
+    ghost invariant = { λ w. IsPastOf (history_of (J.owner w.history_writer.part) w.history_writer.log) (table_of
+        w.partition) × AreCounts w.answered.items (history_of (J.owner w.history_writer.part) w.history_writer.log) ×
+        All (λ (e : Entry). e.worker < length w.answered.items) (history_of (J.owner w.history_writer.part)
+        w.history_writer.log) × IfSome (listed w.entries) (λ entries. entries ≡ history_of (J.owner
+        w.history_writer.part) w.history_writer.log) × AreWithin w.partition.keys (history_of (J.owner
+        w.history_writer.part) w.history_writer.log) };
 }
 
 impl<J: Naming> Witnessed<J> {
-    /// A partition that has answered nothing, with its scribe and a count of entries for each worker; with an audit
-    /// also an empty list of its entries. Refused if no memory is found.
+    /// A partition that has answered nothing, with its history writer and a count of entries for each worker;
+    /// with an audit also an empty list of its entries. Refused if no memory is found.
     pub(crate) fn new(
         alloc: Global,
         partition: Partition,
@@ -92,7 +93,7 @@ impl<J: Naming> Witnessed<J> {
         match vec![in alloc; 0u64; workers as usize] {
             Ok(answered) => Ok(Witnessed {
                 partition,
-                scribe: Scribe::new(part, owner),
+                history_writer: HistoryWriter::new(part, owner),
                 answered,
                 entries: list_for(alloc, is_audited),
             }),
@@ -108,7 +109,7 @@ impl<J: Naming> Witnessed<J> {
     pub fn part(&self) -> u32
         ensures { result ≡ self.now.part }
     {
-        self.scribe.part()
+        self.history_writer.part()
     }
 
     /// The partition itself, to be read.
@@ -139,7 +140,7 @@ impl<J: Naming> Witnessed<J> {
     /// are those after the history, it has accepted as many commands as the history has entries, each entry is by
     /// one of its workers, the list of an audit is the history, and the past obeys the keys and the limits. The live
     /// rows of the store are the plain rows after the past, which is empty if the history is.
-    pub fn facts(&self)
+    pub fn recall_invariant(&self)
         ensures whole { IsWhole J.owner self.now }
         ensures sound { IsSound self.now.held }
         ensures faithful { IsFaithful self.now.held.store self.now.held.next (state_after (past_of J.owner self.now)) }
@@ -147,8 +148,8 @@ impl<J: Naming> Witnessed<J> {
         ensures divided { state_after (past_of J.owner self.now) ≡ state_of self.now.held }
         ensures totals { HasTotals (past_of J.owner self.now) self.now.held }
     {
-        let _part = self.scribe.part();
-        self.partition.facts();
+        let _part = self.history_writer.part();
+        self.partition.recall_invariant();
     }
 
     /// How many of a worker's entries the history has. `None` if this isn't a worker of the table. O(1).
@@ -161,7 +162,7 @@ impl<J: Naming> Witnessed<J> {
     }
 
     /// Answers a command of a worker that has received `count` replies from this partition so far, and adds the entry
-    /// to the history. `me` is the worker's front: the events that it has seen, which afterwards end with this entry.
+    /// to the history. `me` are the events that the worker has seen, which afterwards end with this entry.
     /// Costs O(1) beyond `Partition::apply` and takes no memory; with an audit it adds the entry to the partition's
     /// list, and the receipt to the worker's. Refused with `StrangeReceipt`, which carries the partition's number and
     /// `count`, if the history has another number of the worker's entries, or this isn't a worker of the table: then
@@ -169,7 +170,7 @@ impl<J: Naming> Witnessed<J> {
     /// then nothing is written.
     pub fn ask(
         &mut self,
-        me: &mut Front<J>,
+        me: &mut SeenEvents<J>,
         receipts: &mut Option<Vec<Receipt>>,
         worker: u32,
         count: u64,
@@ -227,8 +228,8 @@ impl<J: Naming> Witnessed<J> {
         ensures memory { IsInStep J.owner self.old worker count → refusal_of self.old.held command ≡ None →
             IfErr result (λ e. e ≡ Refusal.OutOfMemory) }
     {
-        let part = self.scribe.part();
-        self.partition.facts();
+        let part = self.history_writer.part();
+        self.partition.recall_invariant();
         if !is_at(self.answered.as_slice(), worker, count) {
             return Err(Refusal::StrangeReceipt {
                 part,
@@ -245,7 +246,7 @@ impl<J: Naming> Witnessed<J> {
             command,
             policy,
         )?;
-        self.scribe.write(me, worker, &asked, &reply);
+        self.history_writer.write(me, worker, &asked, &reply);
         self.answered[worker as usize] = count + 1;
         Ok(reply)
     }
@@ -254,22 +255,22 @@ impl<J: Naming> Witnessed<J> {
     /// last one. No row changes. The history stays whole, but all of its entries now belong to the base.
     pub fn checkpoint(&mut self) -> u64
         ensures since { result ≡ self.old.held.since }
-        ensures folded { self.new.held ≡ folded_part self.old.held }
+        ensures checkpointed { self.new.held ≡ checkpointed_part self.old.held }
         ensures witness { (self.new.part ≡ self.old.part) × (self.new.log ≡ self.old.log) ×
             (self.new.workers ≡ self.old.workers) × (self.new.entries ≡ self.old.entries) }
-        ensures divides { past_of J.owner self.new ≡ folded (past_of J.owner self.old) }
+        ensures divides { past_of J.owner self.new ≡ checkpointed_past (past_of J.owner self.old) }
     {
         self.partition.checkpoint()
     }
 
-    /// States that the partition's entries in `front`, the events that a worker has seen, are a prefix of its
+    /// States that the partition's entries in `seen_events`, the events that a worker has seen, are a prefix of its
     /// history. O(1).
-    pub fn covers(&mut self, front: &Front<J>)
+    pub fn covers(&mut self, seen_events: &SeenEvents<J>)
         ensures same { self.new ≡ self.old }
-        ensures begins { IsPrefix (history_of (J.owner self.old.part) front.now) (history_of (J.owner self.old.part)
-            self.old.log) }
+        ensures begins { IsPrefix (history_of (J.owner self.old.part) seen_events.now) (history_of (J.owner
+            self.old.part) self.old.log) }
     {
-        self.scribe.covers(front);
+        self.history_writer.covers(seen_events);
     }
 }
 

@@ -14,10 +14,10 @@ ghost use Rattle.crack_witness.specs.Witnesses.{IsInStep, IsGiven, HasJustItsOwn
 ghost use Rattle.crack_witness.specs.Witnesses.{KnowsHistory, MayRefuseAt};
 ghost use Rattle.crack_witness.specs.Witnesses.{past_of, receipts_in, replies_at, replies_to};
 
+use crate::history_writer::SeenEvents;
 use crate::listing::{list_for, reserve};
 use crate::opening::Naming;
 use crate::receipt::Receipt;
-use crate::scribe::Front;
 use crate::witnessed::{Witnessed, count_at};
 use crack_row::{Command, Policy, Refusal, Reply};
 use std::alloc::{AllocError, Global};
@@ -29,8 +29,8 @@ use std::marker::Model;
 /// and the receipts.
 pub struct Worker<J: Naming> {
     number: u32,
-    front: Front<J>,
-    fronts: Vec<Front<J>>,
+    seen_events: SeenEvents<J>,
+    seen_by_part: Vec<SeenEvents<J>>,
     counts: Vec<u64>,
     receipts: Option<Vec<Receipt>>,
 }
@@ -40,13 +40,13 @@ impl<J: Naming> Drop for Worker<J> {
     fn drop(self) {
         let Worker {
             number: _,
-            front,
-            fronts,
+            seen_events,
+            seen_by_part,
             counts,
             receipts,
         } = self;
-        drop(front);
-        drop(fronts);
+        drop(seen_events);
+        drop(seen_by_part);
         drop(counts);
         drop(receipts);
     }
@@ -61,13 +61,14 @@ impl<J: Naming> Model for Worker<J> {
 
     ghost view = { λ w. record {
       worker = w.number;
-      seen = w.front;
-      fronts = w.fronts.items;
+      seen = w.seen_events;
+      seen_by_part = w.seen_by_part.items;
       counts = w.counts.items;
       receipts = listed w.receipts;
     } };
 
-    ghost invariant = { λ w. IsWorker J.owner w.number w.front w.fronts.items w.counts.items (listed w.receipts) };
+    ghost invariant = { λ w. IsWorker J.owner w.number w.seen_events w.seen_by_part.items w.counts.items (listed
+        w.receipts) };
 }
 
 impl<J: Naming> Worker<J> {
@@ -76,28 +77,28 @@ impl<J: Naming> Worker<J> {
     pub fn new(
         alloc: Global,
         number: u32,
-        front: Front<J>,
+        seen_events: SeenEvents<J>,
         parts: usize,
         is_audited: bool,
     ) -> Result<Worker<J>, AllocError>
-        requires empty { AreEmpty front }
+        requires empty { AreEmpty seen_events }
         requires few { parts ≤ 64 }
-        ensures seen { IfOk result (λ w. w.seen ≡ front) }
+        ensures seen { IfOk result (λ w. w.seen ≡ seen_events) }
         ensures new { IfOk result (IsNewWorker number parts is_audited) }
         ensures none { IfOk result (λ w. replies_to w ≡ 0) }
     {
         let counts = vec![in alloc; 0u64; parts]?;
-        let mut fronts = Vec::with_capacity(alloc, parts)?;
-        'fronts: for part in 0..parts {
+        let mut seen_by_part = Vec::with_capacity(alloc, parts)?;
+        'seen_by_part: for part in 0..parts {
             let _ = part;
-            if let Err(e) = fronts.push(front.again()) {
+            if let Err(e) = seen_by_part.push(seen_events.copy()) {
                 return Err(e.into());
             }
         }
         Ok(Worker {
             number,
-            front,
-            fronts,
+            seen_events,
+            seen_by_part,
             counts,
             receipts: list_for(alloc, is_audited),
         })
@@ -137,10 +138,10 @@ impl<J: Naming> Worker<J> {
     }
 
     /// The events of the table's book that the worker has seen.
-    pub fn front(&self) -> &Front<J>
+    pub fn seen_events(&self) -> &SeenEvents<J>
         ensures { result.now ≡ self.now.seen }
     {
-        &self.front
+        &self.seen_events
     }
 
     /// Asks a partition, which must have number `part`. Costs O(1) beyond `Partition::apply` and takes no memory;
@@ -175,7 +176,7 @@ impl<J: Naming> Worker<J> {
           reply = reply;
         }) self.old.seen self.new.seen) }
         ensures mine { IfOk result (λ reply. calls_at J.owner part self.old.worker self.new.seen ≡
-            calls_at J.owner part self.old.worker (slice_index_or self.old.fronts part []) ++
+            calls_at J.owner part self.old.worker (slice_index_or self.old.seen_by_part part []) ++
             record { worker = self.old.worker; command = command; reply = reply } ∷ []) }
         ensures receipts { IfOk result (λ reply. self.new.receipts ≡ and_one self.old.receipts (record {
           part = part;
@@ -190,7 +191,8 @@ impl<J: Naming> Worker<J> {
           reply = reply;
         })) }
         ensures count { OnOk result (replies_to self.new ≡ replies_to self.old + 1) }
-        ensures fronts { OnOk result (self.new.fronts ≡ slice_set self.old.fronts part self.new.seen) }
+        ensures seen_by_part { OnOk result (self.new.seen_by_part ≡ slice_set self.old.seen_by_part part
+            self.new.seen) }
         ensures legal { OnOk result (AreHistories self.new.seen) }
         ensures whole { OnOk result ((witnessed.old.part ≡ part) × (self.new.seen ≡ witnessed.new.log)) }
         ensures table { OnOk result (table_of witnessed.new.held ≡ answered witnessed.old.held.limits
@@ -200,13 +202,13 @@ impl<J: Naming> Worker<J> {
             witnessed.old.held.limits) × (witnessed.new.part ≡ witnessed.old.part) }
         ensures seen { IsPrefix self.old.seen self.new.seen × IsPrefix witnessed.old.log witnessed.new.log }
         ensures worker { self.new.worker ≡ self.old.worker }
-        ensures nowhere { length self.old.fronts ≤ part → result ≡ Err Refusal.NoSuchPartition }
-        ensures strange { part < length self.old.fronts → (KnowsHistory J.owner self.old part witnessed.old → ⊥) →
+        ensures nowhere { length self.old.seen_by_part ≤ part → result ≡ Err Refusal.NoSuchPartition }
+        ensures strange { part < length self.old.seen_by_part → (KnowsHistory J.owner self.old part witnessed.old → ⊥) →
             (result ≡ Err (Refusal.StrangeReceipt part (replies_at self.old part))) × (witnessed.new ≡ witnessed.old) }
-        ensures refused { part < length self.old.fronts → KnowsHistory J.owner self.old part witnessed.old →
+        ensures refused { part < length self.old.seen_by_part → KnowsHistory J.owner self.old part witnessed.old →
             IfSome (refusal_of witnessed.old.held command) (λ e. (result ≡ Err e) ×
             (witnessed.new ≡ witnessed.old)) }
-        ensures memory { part < length self.old.fronts → KnowsHistory J.owner self.old part witnessed.old →
+        ensures memory { part < length self.old.seen_by_part → KnowsHistory J.owner self.old part witnessed.old →
             refusal_of witnessed.old.held command ≡ None → IfErr result (λ e. e ≡ Refusal.OutOfMemory) }
         ensures causes { IfErr result (MayRefuseAt J.owner witnessed.old part command self.old) }
         ensures spared { OnErr result (Spares policy witnessed.old.held command witnessed.new.held.store) }
@@ -224,7 +226,7 @@ impl<J: Naming> Worker<J> {
             });
         }
         let reply = witnessed.ask(
-            &mut self.front,
+            &mut self.seen_events,
             &mut self.receipts,
             self.number,
             count,
@@ -232,7 +234,7 @@ impl<J: Naming> Worker<J> {
             policy,
         )?;
         self.counts[part as usize] = count + 1;
-        self.fronts[part as usize] = self.front.again();
+        self.seen_by_part[part as usize] = self.seen_events.copy();
         Ok(reply)
     }
 
@@ -243,10 +245,10 @@ impl<J: Naming> Worker<J> {
         ensures covered { IsPrefix (history_of (J.owner witnessed.old.part) self.now.seen)
             (history_of (J.owner witnessed.old.part) witnessed.old.log) }
         ensures mine { IsTrue result → HasJustItsOwn J.owner self.now witnessed.old }
-        ensures others { witnessed.old.part < length self.now.fronts → self.now.worker < witnessed.old.workers →
+        ensures others { witnessed.old.part < length self.now.seen_by_part → self.now.worker < witnessed.old.workers →
             HasJustItsOwn J.owner self.now witnessed.old → IsTrue result }
     {
-        witnessed.covers(&self.front);
+        witnessed.covers(&self.seen_events);
         self.counts_agree(witnessed)
     }
 
@@ -263,7 +265,7 @@ impl<J: Naming> Worker<J> {
         requires covered { IsPrefix (history_of (J.owner witnessed.now.part) self.now.seen)
             (history_of (J.owner witnessed.now.part) witnessed.now.log) }
         ensures mine { IsTrue result → HasJustItsOwn J.owner self.now witnessed.now }
-        ensures others { witnessed.now.part < length self.now.fronts → self.now.worker < witnessed.now.workers →
+        ensures others { witnessed.now.part < length self.now.seen_by_part → self.now.worker < witnessed.now.workers →
             HasJustItsOwn J.owner self.now witnessed.now → IsTrue result }
     {
         let number = witnessed.part();

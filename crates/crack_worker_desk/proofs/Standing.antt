@@ -89,10 +89,10 @@ module _ (owner : ℕ → ℕ) (table : TableState) (may : ℕ → ℕ → Type 
       (λ is.
       let same : p ≡ part = grind (arith, nat_tests) in
       let more = grows owner part old.worker were.0.seen new.seen (seen-grows calls were.0 new were.2) in
-      let front = calls_at owner part old.worker (slice_index_or old.fronts part []) in
-      let here : calls_at owner part old.worker were.0.seen ≡ front ++ record { worker = old.worker; command = command; reply = reply } ∷ [] = subst (λ (q : ℕ). calls_at owner q old.worker were.0.seen ≡ calls_at owner q old.worker (slice_index_or old.fronts q []) ++ record { worker = old.worker; command = command; reply = reply } ∷ []) same were.1.mine in
+      let seen_events = calls_at owner part old.worker (slice_index_or old.seen_by_part part []) in
+      let here : calls_at owner part old.worker were.0.seen ≡ seen_events ++ record { worker = old.worker; command = command; reply = reply } ∷ [] = subst (λ (q : ℕ). calls_at owner q old.worker were.0.seen ≡ calls_at owner q old.worker (slice_index_or old.seen_by_part q []) ++ record { worker = old.worker; command = command; reply = reply } ∷ []) same were.1.mine in
       let l = ap length here in
-      let m = length-append front (record { worker = old.worker; command = command; reply = reply } ∷ []) in
+      let m = length-append seen_events (record { worker = old.worker; command = command; reply = reply } ∷ []) in
       longer (calls_at owner part old.worker were.0.seen) more.0 (calls_at owner part old.worker new.seen) more.1 (omega (arith, l, m)))
       (λ is. subst (λ (n : ℕ). 0 < length (calls_at owner part n new.seen)) were.1.worker (answers-seen part calls were.0 new were.2 (subst (λ (n : ℕ). 0 < length (entries_at n part calls)) (sym were.1.worker) (subst (λ (l : List Entry). 0 < length l) (entries_other old.worker p part command reply policy calls is) some))))
   answers-seen part (Checkpointed p outcome ∷ calls) old new were some =
@@ -105,58 +105,58 @@ module _ (owner : ℕ → ℕ) (table : TableState) (may : ℕ → ℕ → Type 
       subst (λ (a : WorkerState). 0 < length (calls_at owner part a.worker new.seen)) were.1.1 (answers-seen part calls were.0 new were.2 (subst (λ (a : WorkerState). 0 < length (entries_at a.worker part calls)) (sym were.1.1) some))
 
   -- the entries of a partition that a worker knows: those seen after its last reply there
-  abbrev pub at_front : ℕ → WorkerState → List Entry
-  at_front part a = calls_at owner part a.worker (slice_index_or a.fronts part [])
+  abbrev pub seen_at : ℕ → WorkerState → List Entry
+  seen_at part a = calls_at owner part a.worker (slice_index_or a.seen_by_part part [])
 
   -- an answer is one more entry there, and nothing for another partition
-  front-own : (part p : ℕ) (command : Command) (reply : Reply) (old new : WorkerState) → part < length old.fronts → p ≡ part → AsksTable owner table (may p) p command (Ok reply) old new → at_front part new ≡ at_front part old ++ record { worker = old.worker; command = command; reply = reply } ∷ []
-  front-own part p command reply old new known same asks =
-      let there : slice_index_or new.fronts p [] ≡ new.seen = ap (λ (l : List (List Event)). slice_index_or l p []) asks.fronts ∙ get_or-set_same old.fronts p new.seen [] (subst (λ (q : ℕ). q < length old.fronts) (sym same) known) in
-      subst (λ (q : ℕ). at_front q new ≡ at_front q old ++ record { worker = old.worker; command = command; reply = reply } ∷ []) same
+  seen_events-own : (part p : ℕ) (command : Command) (reply : Reply) (old new : WorkerState) → part < length old.seen_by_part → p ≡ part → AsksTable owner table (may p) p command (Ok reply) old new → seen_at part new ≡ seen_at part old ++ record { worker = old.worker; command = command; reply = reply } ∷ []
+  seen_events-own part p command reply old new known same asks =
+      let there : slice_index_or new.seen_by_part p [] ≡ new.seen = ap (λ (l : List (List Event)). slice_index_or l p []) asks.seen_by_part ∙ get_or-set_same old.seen_by_part p new.seen [] (subst (λ (q : ℕ). q < length old.seen_by_part) (sym same) known) in
+      subst (λ (q : ℕ). seen_at q new ≡ seen_at q old ++ record { worker = old.worker; command = command; reply = reply } ∷ []) same
       (ap (λ (l : List Event). calls_at owner p new.worker l) there ∙ ap (λ (n : ℕ). calls_at owner p n new.seen) asks.worker ∙ asks.mine)
 
-  front-other : (part p : ℕ) (command : Command) (reply : Reply) (old new : WorkerState) → part ≢ p → AsksTable owner table (may p) p command (Ok reply) old new → at_front part new ≡ at_front part old
-  front-other part p command reply old new apart asks =
-      ap (λ (n : ℕ). calls_at owner part n (slice_index_or new.fronts part [])) asks.worker
-      ∙ ap (λ (l : List (List Event)). calls_at owner part old.worker (slice_index_or l part [])) asks.fronts
-      ∙ ap (λ (l : List Event). calls_at owner part old.worker l) (get_or-set_other old.fronts p part new.seen [] apart)
+  seen_events-other : (part p : ℕ) (command : Command) (reply : Reply) (old new : WorkerState) → part ≢ p → AsksTable owner table (may p) p command (Ok reply) old new → seen_at part new ≡ seen_at part old
+  seen_events-other part p command reply old new apart asks =
+      ap (λ (n : ℕ). calls_at owner part n (slice_index_or new.seen_by_part part [])) asks.worker
+      ∙ ap (λ (l : List (List Event)). calls_at owner part old.worker (slice_index_or l part [])) asks.seen_by_part
+      ∙ ap (λ (l : List Event). calls_at owner part old.worker l) (get_or-set_other old.seen_by_part p part new.seen [] apart)
 
-  unknown : (part : ℕ) (a : WorkerState) → length a.fronts ≤ part → at_front part a ≡ []
-  unknown part a past = ap (calls_at owner part a.worker) (get_or_past a.fronts part [] past)
+  unknown : (part : ℕ) (a : WorkerState) → length a.seen_by_part ≤ part → seen_at part a ≡ []
+  unknown part a past = ap (calls_at owner part a.worker) (get_or_past a.seen_by_part part [] past)
 
-  fronts-many : (p : ℕ) (command : Command) (reply : Reply) (old new : WorkerState) → AsksTable owner table (may p) p command (Ok reply) old new → length new.fronts ≡ length old.fronts
-  fronts-many p command reply old new asks = ap length asks.fronts ∙ length-set old.fronts p new.seen
+  seen_by_part-many : (p : ℕ) (command : Command) (reply : Reply) (old new : WorkerState) → AsksTable owner table (may p) p command (Ok reply) old new → length new.seen_by_part ≡ length old.seen_by_part
+  seen_by_part-many p command reply old new asks = ap length asks.seen_by_part ∙ length-set old.seen_by_part p new.seen
 
-  pub fronts-stay : (calls : List Call) (old new : WorkerState) → Led old calls new → length new.fronts ≡ length old.fronts
-  fronts-stay [] old new were = ap (λ (a : WorkerState). length a.fronts) were
-  fronts-stay (Asked p command policy (Ok reply) ∷ calls) old new were = fronts-stay calls were.0 new were.2 ∙ fronts-many p command reply old were.0 were.1
-  fronts-stay (Asked p command policy (Err e) ∷ calls) old new were = fronts-stay calls were.0 new were.2 ∙ ap (λ (a : WorkerState). length a.fronts) were.1.err
-  fronts-stay (Checkpointed p outcome ∷ calls) old new were = fronts-stay calls were.0 new were.2 ∙ ap (λ (a : WorkerState). length a.fronts) were.1.1
-  fronts-stay (Looked p outcome ∷ calls) old new were = fronts-stay calls were.0 new were.2 ∙ ap (λ (a : WorkerState). length a.fronts) were.1.1
-  fronts-stay (Measured p outcome ∷ calls) old new were = fronts-stay calls were.0 new were.2 ∙ ap (λ (a : WorkerState). length a.fronts) were.1.1
-  fronts-stay (Surveyed traffic ∷ calls) old new were = fronts-stay calls were.0 new were.2 ∙ ap (λ (a : WorkerState). length a.fronts) were.1.1
+  pub seen_by_part-stay : (calls : List Call) (old new : WorkerState) → Led old calls new → length new.seen_by_part ≡ length old.seen_by_part
+  seen_by_part-stay [] old new were = ap (λ (a : WorkerState). length a.seen_by_part) were
+  seen_by_part-stay (Asked p command policy (Ok reply) ∷ calls) old new were = seen_by_part-stay calls were.0 new were.2 ∙ seen_by_part-many p command reply old were.0 were.1
+  seen_by_part-stay (Asked p command policy (Err e) ∷ calls) old new were = seen_by_part-stay calls were.0 new were.2 ∙ ap (λ (a : WorkerState). length a.seen_by_part) were.1.err
+  seen_by_part-stay (Checkpointed p outcome ∷ calls) old new were = seen_by_part-stay calls were.0 new were.2 ∙ ap (λ (a : WorkerState). length a.seen_by_part) were.1.1
+  seen_by_part-stay (Looked p outcome ∷ calls) old new were = seen_by_part-stay calls were.0 new were.2 ∙ ap (λ (a : WorkerState). length a.seen_by_part) were.1.1
+  seen_by_part-stay (Measured p outcome ∷ calls) old new were = seen_by_part-stay calls were.0 new were.2 ∙ ap (λ (a : WorkerState). length a.seen_by_part) were.1.1
+  seen_by_part-stay (Surveyed traffic ∷ calls) old new were = seen_by_part-stay calls were.0 new were.2 ∙ ap (λ (a : WorkerState). length a.seen_by_part) were.1.1
 
   -- a worker's entries there are those before, and then exactly its answers
-  pub fronts-go : (part : ℕ) (calls : List Call) (old new : WorkerState) → Led old calls new → part < length old.fronts → at_front part new ≡ at_front part old ++ entries_at old.worker part calls
-  fronts-go part [] old new were known = ap (at_front part) were ∙ sym (append-nil (at_front part old))
-  fronts-go part (Asked p command policy (Ok reply) ∷ calls) old new were known =
-      let more : at_front part new ≡ at_front part were.0 ++ entries_at old.worker part calls = subst (λ (n : ℕ). at_front part new ≡ at_front part were.0 ++ entries_at n part calls) were.1.worker (fronts-go part calls were.0 new were.2 (subst (λ (n : ℕ). part < n) (sym (fronts-many p command reply old were.0 were.1)) known)) in
+  pub seen_by_part-go : (part : ℕ) (calls : List Call) (old new : WorkerState) → Led old calls new → part < length old.seen_by_part → seen_at part new ≡ seen_at part old ++ entries_at old.worker part calls
+  seen_by_part-go part [] old new were known = ap (seen_at part) were ∙ sym (append-nil (seen_at part old))
+  seen_by_part-go part (Asked p command policy (Ok reply) ∷ calls) old new were known =
+      let more : seen_at part new ≡ seen_at part were.0 ++ entries_at old.worker part calls = subst (λ (n : ℕ). seen_at part new ≡ seen_at part were.0 ++ entries_at n part calls) were.1.worker (seen_by_part-go part calls were.0 new were.2 (subst (λ (n : ℕ). part < n) (sym (seen_by_part-many p command reply old were.0 were.1)) known)) in
       either (p == part)
-      (λ is. more ∙ ap (λ (l : List Entry). l ++ entries_at old.worker part calls) (front-own part p command reply old were.0 known (grind (arith, nat_tests)) were.1)
-      ∙ append_assoc (at_front part old) (record { worker = old.worker; command = command; reply = reply } ∷ []) (entries_at old.worker part calls)
-      ∙ ap (λ (l : List Entry). at_front part old ++ l) (sym (entries_own old.worker p part command reply policy calls is)))
-      (λ is. more ∙ ap (λ (l : List Entry). l ++ entries_at old.worker part calls) (front-other part p command reply old were.0 (grind (arith, nat_tests)) were.1)
-      ∙ ap (λ (l : List Entry). at_front part old ++ l) (sym (entries_other old.worker p part command reply policy calls is)))
-  fronts-go part (Asked p command policy (Err e) ∷ calls) old new were known =
-      subst (λ (a : WorkerState). at_front part new ≡ at_front part a ++ entries_at a.worker part calls) were.1.err (fronts-go part calls were.0 new were.2 (subst (λ (a : WorkerState). part < length a.fronts) (sym were.1.err) known))
-  fronts-go part (Checkpointed p outcome ∷ calls) old new were known =
-      subst (λ (a : WorkerState). at_front part new ≡ at_front part a ++ entries_at a.worker part calls) were.1.1 (fronts-go part calls were.0 new were.2 (subst (λ (a : WorkerState). part < length a.fronts) (sym were.1.1) known))
-  fronts-go part (Looked p outcome ∷ calls) old new were known =
-      subst (λ (a : WorkerState). at_front part new ≡ at_front part a ++ entries_at a.worker part calls) were.1.1 (fronts-go part calls were.0 new were.2 (subst (λ (a : WorkerState). part < length a.fronts) (sym were.1.1) known))
-  fronts-go part (Measured p outcome ∷ calls) old new were known =
-      subst (λ (a : WorkerState). at_front part new ≡ at_front part a ++ entries_at a.worker part calls) were.1.1 (fronts-go part calls were.0 new were.2 (subst (λ (a : WorkerState). part < length a.fronts) (sym were.1.1) known))
-  fronts-go part (Surveyed traffic ∷ calls) old new were known =
-      subst (λ (a : WorkerState). at_front part new ≡ at_front part a ++ entries_at a.worker part calls) were.1.1 (fronts-go part calls were.0 new were.2 (subst (λ (a : WorkerState). part < length a.fronts) (sym were.1.1) known))
+      (λ is. more ∙ ap (λ (l : List Entry). l ++ entries_at old.worker part calls) (seen_events-own part p command reply old were.0 known (grind (arith, nat_tests)) were.1)
+      ∙ append_assoc (seen_at part old) (record { worker = old.worker; command = command; reply = reply } ∷ []) (entries_at old.worker part calls)
+      ∙ ap (λ (l : List Entry). seen_at part old ++ l) (sym (entries_own old.worker p part command reply policy calls is)))
+      (λ is. more ∙ ap (λ (l : List Entry). l ++ entries_at old.worker part calls) (seen_events-other part p command reply old were.0 (grind (arith, nat_tests)) were.1)
+      ∙ ap (λ (l : List Entry). seen_at part old ++ l) (sym (entries_other old.worker p part command reply policy calls is)))
+  seen_by_part-go part (Asked p command policy (Err e) ∷ calls) old new were known =
+      subst (λ (a : WorkerState). seen_at part new ≡ seen_at part a ++ entries_at a.worker part calls) were.1.err (seen_by_part-go part calls were.0 new were.2 (subst (λ (a : WorkerState). part < length a.seen_by_part) (sym were.1.err) known))
+  seen_by_part-go part (Checkpointed p outcome ∷ calls) old new were known =
+      subst (λ (a : WorkerState). seen_at part new ≡ seen_at part a ++ entries_at a.worker part calls) were.1.1 (seen_by_part-go part calls were.0 new were.2 (subst (λ (a : WorkerState). part < length a.seen_by_part) (sym were.1.1) known))
+  seen_by_part-go part (Looked p outcome ∷ calls) old new were known =
+      subst (λ (a : WorkerState). seen_at part new ≡ seen_at part a ++ entries_at a.worker part calls) were.1.1 (seen_by_part-go part calls were.0 new were.2 (subst (λ (a : WorkerState). part < length a.seen_by_part) (sym were.1.1) known))
+  seen_by_part-go part (Measured p outcome ∷ calls) old new were known =
+      subst (λ (a : WorkerState). seen_at part new ≡ seen_at part a ++ entries_at a.worker part calls) were.1.1 (seen_by_part-go part calls were.0 new were.2 (subst (λ (a : WorkerState). part < length a.seen_by_part) (sym were.1.1) known))
+  seen_by_part-go part (Surveyed traffic ∷ calls) old new were known =
+      subst (λ (a : WorkerState). seen_at part new ≡ seen_at part a ++ entries_at a.worker part calls) were.1.1 (seen_by_part-go part calls were.0 new were.2 (subst (λ (a : WorkerState). part < length a.seen_by_part) (sym were.1.1) known))
 
   first_of : (parts : List WitnessedState) (k : ℕ) → k < length parts → WitnessedState
   first_of [] k less = absurd (omega (arith, less))
@@ -180,30 +180,30 @@ module _ (owner : ℕ → ℕ) (table : TableState) (may : ℕ → ℕ → Type 
     legal = All-map (AreReplies no_rows) (λ (v : WitnessedState). history_of (owner v.part) v.log) parts (λ k d less. (gathered.2.whole k d less).legal (owner (get_or parts k d).part))
 
     stand-some : (calls later : List Call) (old new : WorkerState) → Led old calls new → Led new later last → (part : ℕ) → 0 < length (entries_at old.worker part calls)
-        → calls_by old.worker (slice_index_or (histories_of owner parts) part []) ≡ at_front part old ++ entries_at old.worker part calls ++ entries_at old.worker part later
+        → calls_by old.worker (slice_index_or (histories_of owner parts) part []) ≡ seen_at part old ++ entries_at old.worker part calls ++ entries_at old.worker part later
     stand-some calls later old new were goes part some =
         let one = found part (answers-there part old.worker calls old new were some) in
         let same : last.worker ≡ old.worker = worker-stays later new last goes ∙ worker-stays calls old new were in
-        let whole : calls_at owner part old.worker one.0.log ≡ at_front part last =
-        subst (λ (n : ℕ). calls_at owner part n one.0.log ≡ at_front part last) same (subst (λ (q : ℕ). calls_at owner q last.worker one.0.log ≡ at_front q last) one.1 one.3.mine) in
-        let fronts : length last.fronts ≡ length old.fronts = fronts-stay later new last goes ∙ fronts-stay calls old new were in
+        let whole : calls_at owner part old.worker one.0.log ≡ seen_at part last =
+        subst (λ (n : ℕ). calls_at owner part n one.0.log ≡ seen_at part last) same (subst (λ (q : ℕ). calls_at owner q last.worker one.0.log ≡ seen_at q last) one.1 one.3.mine) in
+        let seen_by_part : length last.seen_by_part ≡ length old.seen_by_part = seen_by_part-stay later new last goes ∙ seen_by_part-stay calls old new were in
         let more = grows owner part old.worker new.seen last.seen (seen-grows later new last goes) in
         let seen : 0 < length (calls_at owner part old.worker last.seen) = longer (calls_at owner part old.worker new.seen) more.0 (calls_at owner part old.worker last.seen) more.1 (answers-seen part calls old new were some) in
         let covered = subst (λ (q : ℕ). IsPrefix (history_of (owner q) last.seen) (history_of (owner q) one.0.log)) one.1 one.3.covered in
         let there : 0 < length (calls_at owner part old.worker one.0.log) = longer (calls_at owner part old.worker last.seen) (calls_by old.worker covered.0) (calls_at owner part old.worker one.0.log)
         (ap (calls_by old.worker) (sym covered.1) ∙ filter-append (λ (e : Entry). e.worker == old.worker) (history_of (owner part) last.seen) covered.0) seen in
-        let known : part < length old.fronts = either (nat_lt part (length old.fronts)) (λ is. grind (arith, nat_tests))
-        (λ is. let none = ap length (whole ∙ unknown part last (let past : length old.fronts ≤ part = grind (arith, nat_tests) in omega (arith, past, fronts))) in absurd (omega (arith, there, none))) in
+        let known : part < length old.seen_by_part = either (nat_lt part (length old.seen_by_part)) (λ is. grind (arith, nat_tests))
+        (λ is. let none = ap length (whole ∙ unknown part last (let past : length old.seen_by_part ≤ part = grind (arith, nat_tests) in omega (arith, past, seen_by_part))) in absurd (omega (arith, there, none))) in
         ap (calls_by old.worker) (one.2 ∙ ap (λ (q : ℕ). history_of (owner q) one.0.log) one.1) ∙ whole
-        ∙ fronts-go part later new last goes (subst (λ (n : ℕ). part < n) (sym (fronts-stay calls old new were)) known)
-        ∙ ap (λ (n : ℕ). at_front part new ++ entries_at n part later) (worker-stays calls old new were)
-        ∙ ap (λ (l : List Entry). l ++ entries_at old.worker part later) (fronts-go part calls old new were known)
+        ∙ seen_by_part-go part later new last goes (subst (λ (n : ℕ). part < n) (sym (seen_by_part-stay calls old new were)) known)
+        ∙ ap (λ (n : ℕ). seen_at part new ++ entries_at n part later) (worker-stays calls old new were)
+        ∙ ap (λ (l : List Entry). l ++ entries_at old.worker part later) (seen_by_part-go part calls old new were known)
 
     pub stands : (calls later : List Call) (old new : WorkerState) → Led old calls new → Led new later last → StandIn owner parts old.worker calls
     stands calls later old new were goes = record {
       legal = legal;
       stand = λ part. either (nat_lt 0 (length (entries_at old.worker part calls)))
-          (λ is. (at_front part old, entries_at old.worker part later, stand-some calls later old new were goes part (grind (arith, nat_tests))))
+          (λ is. (seen_at part old, entries_at old.worker part later, stand-some calls later old new were goes part (grind (arith, nat_tests))))
           (λ is.
           let here = calls_by old.worker (slice_index_or (histories_of owner parts) part []) in
           let none : entries_at old.worker part calls ≡ [] = empty (entries_at old.worker part calls) (grind (arith, nat_tests)) in

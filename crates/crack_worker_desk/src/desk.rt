@@ -95,7 +95,7 @@ impl<'a, R: Wait, G: Gate, J: Naming> Desk for WorkerDesk<'a, R, G, J> {
     /// Makes a checkpoint as `Table::checkpoint` does.
     fn checkpoint(&mut self, part: u32) -> Result<u64, Refusal>
         // Makes a checkpoint of a partition for all workers. Its history stays whole.
-        ensures folds { AnswersAt self.old.table.now part (λ e. ⊥) result }
+        ensures checkpoints { AnswersAt self.old.table.now part (λ e. ⊥) result }
         ensures worker { self.new.worker ≡ self.old.worker }
         ensures table { (self.new.table.now ≡ self.old.table.now) × (self.new.gate.now ≡ self.old.gate.now) }
     {

@@ -3,10 +3,12 @@
 
 ghost use Rattle.crack_witness.specs.Witnesses.{AreNames};
 
-use crack_arguments::{ArgumentsError, Opening, Request, Service, Staffed, asks_for_words};
+use crack_arguments::{
+    ArgumentsError, BatchOptions, Request, ServeOptions, TableOptions, asks_for_words,
+};
 use crack_core::Core;
 use crack_csv::{export_csv, load_csv};
-use crack_loop::{Ending, Terms};
+use crack_loop::{ServerEnding, Terms};
 use crack_row::{Policy, Refusal, Upkeep, Watched};
 use crack_server::{run_batch, run_service};
 use crack_service::{Host, Notice, REPLY_BYTES};
@@ -45,7 +47,7 @@ fn words(rt: &HostRuntime) -> io::Result<Vec<String>> {
 
 /// Answers the statements of standard input over a new table, on standard output. Refused if the table can't be
 /// opened or the session is cut off.
-fn script(rt: &HostRuntime, opening: &Opening) -> Result<(), Refusal> {
+fn script(rt: &HostRuntime, opening: &TableOptions) -> Result<(), Refusal> {
     let mut core = Core::open_with(rt.alloc(), opening.splits.as_slice(), opening.limits)?;
     let served = serve_input(rt, &mut core, opening.policy);
     drop(core);
@@ -64,7 +66,7 @@ fn serve_input(rt: &HostRuntime, core: &mut Core, policy: Policy) -> Result<(), 
 
 /// Loads the CSV records of standard input into a new table, and writes its rows to standard output. Refused if the
 /// table can't be opened, and as the load or the export is.
-fn csv(rt: &HostRuntime, opening: &Opening) -> Result<(), Refusal> {
+fn csv(rt: &HostRuntime, opening: &TableOptions) -> Result<(), Refusal> {
     let mut core = Core::open_with(rt.alloc(), opening.splits.as_slice(), opening.limits)?;
     let copied = copy_csv(rt, &mut core, opening.policy);
     drop(core);
@@ -90,20 +92,20 @@ fn copy_csv(rt: &HostRuntime, core: &mut Core, policy: Policy) -> Result<(), Ref
 fn batch<H: Threads + Wait + Sync>(
     handle: &H,
     rt: &HostRuntime,
-    staffed: &Staffed,
+    batch_options: &BatchOptions,
 ) -> Result<(), Refusal> {
     let Ok(mut writer) = BufWriter::with_capacity(rt.alloc(), REPLY_BYTES, rt.stdout()) else {
         return Err(Refusal::OutOfMemory);
     };
-    let opening = &staffed.opening;
+    let opening = &batch_options.opening;
     run_batch(
         handle,
         rt.alloc(),
         opening.splits.as_slice(),
         opening.limits,
         opening.policy,
-        staffed.workers,
-        staffed.is_audited,
+        batch_options.workers,
+        batch_options.is_audited,
         &OpenGate,
         &mut rt.stdin(),
         &mut writer,
@@ -115,7 +117,7 @@ fn batch<H: Threads + Wait + Sync>(
 fn serve_port<H: Threads + Wait + Net<Listener = TcpListener, Stream = TcpStream> + Sync>(
     handle: &H,
     rt: &HostRuntime,
-    service: &Service,
+    service: &ServeOptions,
 ) -> Result<(), Refusal> {
     let opening = &service.opening;
     let workers = workers_of(handle, service);
@@ -134,7 +136,7 @@ fn serve_port<H: Threads + Wait + Net<Listener = TcpListener, Stream = TcpStream
 fn serve_named<
     J: Naming + Send + Sync,
     H: Threads + Wait + Net<Listener = TcpListener, Stream = TcpStream> + Sync,
->(handle: &H, rt: &HostRuntime, service: &Service, table: UnnamedTable) -> Result<(), Refusal>
+>(handle: &H, rt: &HostRuntime, service: &ServeOptions, table: UnnamedTable) -> Result<(), Refusal>
     requires { AreNames J.book J.owner table.opened }
 {
     let (table, workers) = table.named::<J>(rt.alloc())?;
@@ -163,7 +165,7 @@ fn serve_named<
 
 /// The number of workers of a server: by default the number of processors, at most `MOST_WORKERS`, or 1 if that
 /// isn't known.
-fn workers_of<H: Threads>(handle: &H, service: &Service) -> u64 {
+fn workers_of<H: Threads>(handle: &H, service: &ServeOptions) -> u64 {
     match service.workers {
         Some(workers) => workers,
         None => match thread::available_parallelism(handle) {
@@ -174,13 +176,13 @@ fn workers_of<H: Threads>(handle: &H, service: &Service) -> u64 {
 }
 
 /// The options of a server.
-fn terms_of(service: &Service) -> Terms {
+fn terms_of(service: &ServeOptions) -> Terms {
     let opening = &service.opening;
     Terms {
         policy: opening.policy,
         ending: match service.sessions {
-            Some(sessions) => Ending::AfterSessions(sessions),
-            None => Ending::AtEndOfInput,
+            Some(sessions) => ServerEnding::AfterSessions(sessions),
+            None => ServerEnding::AtEndOfInput,
         },
         idle: service.idle,
         clients: service.clients,
@@ -190,7 +192,7 @@ fn terms_of(service: &Service) -> Terms {
 }
 
 /// Whether partitions make checkpoints by themselves.
-fn has_upkeep(opening: &Opening) -> bool {
+fn has_upkeep(opening: &TableOptions) -> bool {
     matches!(opening.limits.upkeep, Upkeep::Automatic)
 }
 
@@ -203,7 +205,7 @@ struct Console<'a> {
 }
 
 /// The host of a server with these options.
-fn console_of<'a>(rt: &'a HostRuntime, service: &Service) -> Console<'a> {
+fn console_of<'a>(rt: &'a HostRuntime, service: &ServeOptions) -> Console<'a> {
     Console {
         rt,
         port: service.port,
@@ -282,7 +284,7 @@ fn run_request<H: Threads + Wait + Net<Listener = TcpListener, Stream = TcpStrea
     match request {
         Request::Help(text) => print!(rt; "{text}").map_err(|_| Refusal::WriteFault),
         Request::Script(opening) => script(rt, opening),
-        Request::Batch(staffed) => batch(handle, rt, staffed),
+        Request::Batch(batch_options) => batch(handle, rt, batch_options),
         Request::Serve(service) => serve_port(handle, rt, service),
         Request::Csv(opening) => csv(rt, opening),
     }

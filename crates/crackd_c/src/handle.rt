@@ -4,7 +4,7 @@ ghost use Rattle.crack_core.specs.Cores.{CoreState};
 ghost use Rattle.crackd_c.specs.Handles.{core_coded, handle_owns};
 ghost use Rattle.std.specs.Borrow.{sem};
 
-use crate::parts::Parts;
+use crate::parts::BoxParts;
 use crack_core::Core;
 use std::alloc::Global;
 use std::marker::{Model, Send};
@@ -13,17 +13,17 @@ use std::{mem, ptr};
 /// A handle by which C code holds a table, or none. A handle whose bytes are all zero holds none.
 #[repr(C)]
 #[derive(Drop)]
-pub struct Handle {
+pub struct TableHandle {
     at: *mut u8,
     is_open: bool,
     ghost core: { CoreState } by { core_coded },
 }
 
-impl Model for Handle {
+impl Model for TableHandle {
     ghost also_owns = { λ h. handle_owns h.is_open h.at h.core };
 }
 
-impl Handle {
+impl TableHandle {
     ghost use Rattle.crackd_c.specs.Lends.{core_follows};
 
     /// Whether the handle holds a table.
@@ -34,10 +34,10 @@ impl Handle {
     }
 
     /// A handle that holds this table.
-    pub fn of(core: Box<Core>) -> Handle
+    pub fn of(core: Box<Core>) -> TableHandle
         ensures { (result.is_open ≡ true) × (result.core ≡ core.value) }
     {
-        Handle::of_parts(Parts::of(core))
+        TableHandle::of_parts(BoxParts::of(core))
     }
 
     /// Takes the table out of the handle, which must hold one and then holds none.
@@ -46,38 +46,38 @@ impl Handle {
         ensures value { result.value ≡ self.old.core }
         ensures closed { self.new.is_open ≡ false }
     {
-        let closed = Handle::closed();
+        let closed = TableHandle::closed();
         mem::replace(self, closed).into_parts(alloc).into_box()
     }
 
     /// A handle that holds no table.
-    fn closed() -> Handle
+    fn closed() -> TableHandle
         ensures { result.is_open ≡ false }
     {
-        Handle {
+        TableHandle {
             at: ptr::null_mut(),
             is_open: false,
         }
     }
 
     /// A handle that holds the table of a taken-apart box.
-    fn of_parts(parts: Parts<Core, Global>) -> Handle
+    fn of_parts(parts: BoxParts<Core, Global>) -> TableHandle
         ensures { (result.is_open ≡ true) × (result.core ≡ parts.value) }
     {
-        let Parts { ptr, alloc: _ } = parts;
-        Handle {
+        let BoxParts { ptr, alloc: _ } = parts;
+        TableHandle {
             at: ptr as *mut u8,
             is_open: true,
         }
     }
 
     /// The box of the handle's table, taken apart. The handle must hold a table.
-    fn into_parts(self, alloc: Global) -> Parts<Core, Global>
+    fn into_parts(self, alloc: Global) -> BoxParts<Core, Global>
         requires { self.is_open ≡ true }
         ensures { result.value ≡ self.core }
     {
-        let Handle { at, is_open: _ } = self;
-        Parts {
+        let TableHandle { at, is_open: _ } = self;
+        BoxParts {
             ptr: at as *mut Core,
             alloc,
         }
@@ -93,4 +93,4 @@ impl Handle {
     }
 }
 
-unsafe impl Send for Handle {}
+unsafe impl Send for TableHandle {}

@@ -10,7 +10,8 @@ ghost use Rattle.crack_core.specs.Bulk.{OverKeys, of_halves, flag, row_number};
 ghost use Rattle.crack_core.specs.Bulk.{InsertsAt, DeletesAt, UpdatesAt, CountsAt, SumsAt};
 ghost use Rattle.crack_core.specs.Listing.{Selects};
 ghost use Rattle.crack_core.specs.Steps.{accepted_by};
-ghost use Rattle.crackd_c.specs.Calls.{OnTable, OnLists, ByPolicy, ComesOut, GoesThrough, Shows, FoldsOne, OpensHandle};
+ghost use Rattle.crackd_c.specs.Calls.{OnTable, OnLists, ByPolicy, ComesOut, GoesThrough, Shows, CheckpointsOne};
+ghost use Rattle.crackd_c.specs.Calls.{OpensHandle};
 
 pub mod handle;
 pub mod opening;
@@ -19,8 +20,8 @@ pub mod picture;
 pub mod status;
 
 use crack_row::{Key, Limits, Payload, RowNo, Serial, Upkeep};
-use handle::Handle;
-use picture::Totals;
+use handle::TableHandle;
+use picture::LayoutTotals;
 use status::{
     ALREADY_OPEN, ANSWERED, CLOSED, LENGTHS_DIFFER, NO_SUCH_POLICY, close_list, flag, policy_of,
 };
@@ -32,7 +33,7 @@ use std::alloc::Global;
 #[unsafe(no_mangle)]
 pub extern "C" fn crackd_open(
     alloc: Global,
-    handle: &mut Handle,
+    handle: &mut TableHandle,
     splits: &[u64],
     history: u64,
     cells: u64,
@@ -53,7 +54,7 @@ pub extern "C" fn crackd_open(
     };
     match opening::open(alloc, splits, limits) {
         Ok(core) => {
-            *handle = Handle::of(core);
+            *handle = TableHandle::of(core);
             ANSWERED
         }
         Err(refusal) => refusal.code(),
@@ -62,7 +63,7 @@ pub extern "C" fn crackd_open(
 
 /// Frees the table of a handle, which then holds none.
 #[unsafe(no_mangle)]
-pub extern "C" fn crackd_close(alloc: Global, handle: &mut Handle) -> u32
+pub extern "C" fn crackd_close(alloc: Global, handle: &mut TableHandle) -> u32
     ensures closed { handle.old.is_open ≡ false → (result ≡ CLOSED) × (handle.new ≡ handle.old) }
     ensures closes { handle.old.is_open ≡ true → (result ≡ 0) × (handle.new.is_open ≡ false) }
 {
@@ -76,7 +77,7 @@ pub extern "C" fn crackd_close(alloc: Global, handle: &mut Handle) -> u32
 /// Inserts a row, and writes its row number: partition and serial.
 #[unsafe(no_mangle)]
 pub extern "C" fn crackd_insert(
-    handle: &mut Handle,
+    handle: &mut TableHandle,
     key: u64,
     payload: i64,
     part: &mut u32,
@@ -105,7 +106,7 @@ pub extern "C" fn crackd_insert(
 /// Deletes a row, and writes whether it existed and, if so, its key and payload.
 #[unsafe(no_mangle)]
 pub extern "C" fn crackd_delete(
-    handle: &mut Handle,
+    handle: &mut TableHandle,
     part: u32,
     serial: u64,
     gone: &mut u8,
@@ -142,7 +143,7 @@ pub extern "C" fn crackd_delete(
 /// Replaces the key and the payload of a row, and writes whether the row exists.
 #[unsafe(no_mangle)]
 pub extern "C" fn crackd_update(
-    handle: &mut Handle,
+    handle: &mut TableHandle,
     part: u32,
     serial: u64,
     key: u64,
@@ -175,7 +176,7 @@ pub extern "C" fn crackd_update(
 /// Counts the rows whose keys are `first` to `last`, both included, by the policy with this number (`policy_of`).
 #[unsafe(no_mangle)]
 pub extern "C" fn crackd_count(
-    handle: &mut Handle,
+    handle: &mut TableHandle,
     policy: u32,
     first: u64,
     last: u64,
@@ -203,7 +204,7 @@ pub extern "C" fn crackd_count(
 /// sum, and the bits above them.
 #[unsafe(no_mangle)]
 pub extern "C" fn crackd_sum(
-    handle: &mut Handle,
+    handle: &mut TableHandle,
     policy: u32,
     first: u64,
     last: u64,
@@ -235,7 +236,7 @@ pub extern "C" fn crackd_sum(
 /// the four lists have room, and writes how many rows the range has. The lists must have the same length.
 #[unsafe(no_mangle)]
 pub extern "C" fn crackd_select(
-    handle: &mut Handle,
+    handle: &mut TableHandle,
     policy: u32,
     first: u64,
     last: u64,
@@ -277,9 +278,9 @@ pub extern "C" fn crackd_select(
 /// lists have room. The lists must have the same length.
 #[unsafe(no_mangle)]
 pub extern "C" fn crackd_layout(
-    handle: &mut Handle,
+    handle: &mut TableHandle,
     part: u32,
-    totals: &mut Totals,
+    totals: &mut LayoutTotals,
     lows: &mut [u64],
     sizes: &mut [u64],
 ) -> u32
@@ -305,8 +306,9 @@ pub extern "C" fn crackd_layout(
 /// Makes a checkpoint of a partition, and writes how many commands the partition had accepted since its previous
 /// one.
 #[unsafe(no_mangle)]
-pub extern "C" fn crackd_checkpoint(handle: &mut Handle, part: u32, folded: &mut u64) -> u32
-    ensures folds { OnTable handle.old handle.new result (folded.new ≡ folded.old) (FoldsOne part folded.new) }
+pub extern "C" fn crackd_checkpoint(handle: &mut TableHandle, part: u32, folded: &mut u64) -> u32
+    ensures checkpoints { OnTable handle.old handle.new result (folded.new ≡ folded.old) (CheckpointsOne part
+        folded.new) }
 {
     if !handle.is_open() {
         return CLOSED;
@@ -322,7 +324,7 @@ pub extern "C" fn crackd_checkpoint(handle: &mut Handle, part: u32, folded: &mut
 
 /// Writes how many commands the partitions have accepted since they were opened.
 #[unsafe(no_mangle)]
-pub extern "C" fn crackd_accepted(handle: &mut Handle, accepted: &mut u64) -> u32
+pub extern "C" fn crackd_accepted(handle: &mut TableHandle, accepted: &mut u64) -> u32
     ensures accepted { OnTable handle.old handle.new result (accepted.new ≡ accepted.old) (λ old new status unwritten.
         (new.is_open ≡ true) × (new.core ≡ old.core) × (status ≡ 0) × (accepted.new ≡ accepted_by old.core.parts)) }
 {
@@ -337,7 +339,7 @@ pub extern "C" fn crackd_accepted(handle: &mut Handle, accepted: &mut u64) -> u3
 /// the same length; the call stops at the first refusal, and `done` gets the number of rows or ranges before it.
 #[unsafe(no_mangle)]
 pub extern "C" fn crackd_insert_many(
-    handle: &mut Handle,
+    handle: &mut TableHandle,
     keys: &[u64],
     payloads: &[i64],
     parts: &mut [u32],
@@ -363,7 +365,7 @@ pub extern "C" fn crackd_insert_many(
 /// Deletes rows, and writes for each whether it existed.
 #[unsafe(no_mangle)]
 pub extern "C" fn crackd_delete_many(
-    handle: &mut Handle,
+    handle: &mut TableHandle,
     parts: &[u32],
     serials: &[u64],
     gone: &mut [u8],
@@ -387,7 +389,7 @@ pub extern "C" fn crackd_delete_many(
 /// Replaces the keys and the payloads of rows, and writes for each whether the row exists.
 #[unsafe(no_mangle)]
 pub extern "C" fn crackd_update_many(
-    handle: &mut Handle,
+    handle: &mut TableHandle,
     parts: &[u32],
     serials: &[u64],
     keys: &[u64],
@@ -419,7 +421,7 @@ pub extern "C" fn crackd_update_many(
 /// Counts the rows of each range, given by its first and last key, both included.
 #[unsafe(no_mangle)]
 pub extern "C" fn crackd_count_many(
-    handle: &mut Handle,
+    handle: &mut TableHandle,
     policy: u32,
     firsts: &[u64],
     lasts: &[u64],
@@ -448,7 +450,7 @@ pub extern "C" fn crackd_count_many(
 /// sum, and the bits above them.
 #[unsafe(no_mangle)]
 pub extern "C" fn crackd_sum_many(
-    handle: &mut Handle,
+    handle: &mut TableHandle,
     policy: u32,
     firsts: &[u64],
     lasts: &[u64],

@@ -8,7 +8,7 @@ use crack_row::{Bound, GREATEST_KEY, Layout, PieceSize};
 /// pieces.
 #[repr(C)]
 #[derive(Clone, Copy)]
-pub struct Totals {
+pub struct LayoutTotals {
     pub rows: u64,
     pub column: u64,
     pub pending_out: u64,
@@ -19,10 +19,10 @@ pub struct Totals {
 }
 
 /// The totals of a layout, without its list of pieces.
-pub fn totals_of(layout: &Layout) -> Totals
+pub fn totals_of(layout: &Layout) -> LayoutTotals
     ensures { result ≡ totals_in layout.now }
 {
-    Totals {
+    LayoutTotals {
         rows: layout.rows,
         column: layout.column,
         pending_out: layout.pending_out,

@@ -3,7 +3,7 @@ ghost use Rattle.std.specs.Prelude.{◌≡◌};
 ghost use Rattle.crack_core.specs.Bulk.{flag};
 ghost use Rattle.crackd_c.specs.Calls.{policy_at, status_of};
 
-use crack_core::Progress;
+use crack_core::BulkProgress;
 use crack_row::{Policy, Refusal};
 
 /// The return value of a call that was answered.
@@ -35,7 +35,7 @@ pub fn policy_of(number: u32) -> Option<Policy>
 }
 
 /// Writes how many calls of a list were answered, and returns the number of the refusal that stopped them, or 0.
-pub fn close_list(progress: Progress, done: &mut u64) -> u32
+pub fn close_list(progress: BulkProgress, done: &mut u64) -> u32
     ensures done { done.new ≡ progress.done }
     ensures status { result ≡ status_of progress.refusal }
 {

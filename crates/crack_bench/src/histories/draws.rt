@@ -41,16 +41,16 @@ pub struct Question {
 
 /// The questions of one worker. They depend on its seed, and on the serials in the replies.
 #[derive(Clone, Copy)]
-pub struct Draws {
+pub struct DrawnQuestions {
     state: u64,
     /// The serial of the last row that the worker inserted into each partition.
     last: [u64; PARTS],
 }
 
-impl Draws {
+impl DrawnQuestions {
     /// The questions of the worker with this number.
-    pub fn new(seed: u64, worker: u32) -> Draws {
-        let mut draws = Draws {
+    pub fn new(seed: u64, worker: u32) -> DrawnQuestions {
+        let mut draws = DrawnQuestions {
             state: seed.wrapping_mul(64).wrapping_add(u64::from(worker)),
             last: [0; PARTS],
         };

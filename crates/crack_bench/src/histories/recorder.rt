@@ -1,9 +1,9 @@
 //! The questions of a worker, recorded with their answers.
 
-use crate::histories::draws::{Asked, Draws, Question};
+use crate::histories::draws::{Asked, DrawnQuestions, Question};
 use crate::histories::gate::Restless;
 use crate::histories::texts::{write_answer, write_checkpoint, write_receipt, written};
-use crate::seats::{Questions, Works};
+use crate::table_workers::{Questions, Works};
 use crack_commands::send;
 use crack_row::{Command, Refusal, Watched};
 use crack_witness::{Naming, Worker};
@@ -12,7 +12,7 @@ use std::io::Write;
 /// Draws the questions of a worker, and records them with their answers.
 #[derive(Drop)]
 pub struct Recorder<'a> {
-    pub draws: Draws,
+    pub draws: DrawnQuestions,
     pub gate: &'a Restless,
     /// How many workers begin together.
     pub workers: u64,

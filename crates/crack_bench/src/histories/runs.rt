@@ -1,12 +1,12 @@
 //! A table and its workers, each worker on its own thread.
 ghost use Rattle.crack_witness.specs.Witnesses.{AreNames};
 
-use crate::histories::draws::{Draws, FIRST_KEYS};
+use crate::histories::draws::{DrawnQuestions, FIRST_KEYS};
 use crate::histories::gate::Restless;
 use crate::histories::recorder::Recorder;
 use crate::histories::texts::{write_answer, write_part, written};
-use crate::report::Host;
-use crate::seats::{Hand, Seated, leave, work_on_threads};
+use crate::report::BenchHost;
+use crate::table_workers::{Hand, TableWorker, leave, work_on_threads};
 use crack_row::{Entry, Key, Limits, Policy, Refusal, Watched};
 use crack_table::{Gathered, Table, UnnamedTable, gather};
 use crack_witness::{Naming, Worker};
@@ -28,11 +28,11 @@ pub struct Plan {
 }
 
 /// A worker of the table, and its questions.
-type Asking<'a, R, J> = Hand<Seated<'a, R, Restless, J>, Recorder<'a>>;
+type Asking<'a, R, J> = Hand<TableWorker<'a, R, Restless, J>, Recorder<'a>>;
 
 /// Has the workers ask a table with an audit, and writes their replies and the histories. Refused if the table
 /// can't be opened, if no memory is found, as the gathering is, and if the writer fails.
-pub fn carry_out<R: Host, W: Write>(
+pub fn carry_out<R: BenchHost, W: Write>(
     rt: &R,
     plan: Plan,
     writer: &mut Watched<W>,
@@ -48,7 +48,7 @@ pub fn carry_out<R: Host, W: Write>(
 
 /// Opens the table under the name `J`, which matters only to proofs, and carries out the plan. Refused as
 /// `carry_out` is.
-fn carry_out_named<J: Naming + Send + Sync, R: Host, W: Write>(
+fn carry_out_named<J: Naming + Send + Sync, R: BenchHost, W: Write>(
     rt: &R,
     plan: Plan,
     table: UnnamedTable,
@@ -69,7 +69,7 @@ fn carry_out_named<J: Naming + Send + Sync, R: Host, W: Write>(
 }
 
 /// Has the workers ask, and writes their questions and answers. Then moves the workers to `left`.
-fn ask_and_write<J: Naming + Send + Sync, R: Host + Sync, W: Write>(
+fn ask_and_write<J: Naming + Send + Sync, R: BenchHost + Sync, W: Write>(
     rt: &R,
     plan: Plan,
     table: &Table<J>,
@@ -92,7 +92,7 @@ fn ask_and_write<J: Naming + Send + Sync, R: Host + Sync, W: Write>(
 }
 
 /// Has the workers ask, each on a thread of its own, and writes their questions and answers.
-fn work<'a, J: Naming + Send + Sync, R: Host + Sync, W: Write>(
+fn work<'a, J: Naming + Send + Sync, R: BenchHost + Sync, W: Write>(
     rt: &'a R,
     gate: &'a Restless,
     plan: Plan,
@@ -103,13 +103,13 @@ fn work<'a, J: Naming + Send + Sync, R: Host + Sync, W: Write>(
 ) -> Result<(), Refusal> {
     'workers: for worker in workers {
         let questions = Recorder {
-            draws: Draws::new(plan.seed, worker.number()),
+            draws: DrawnQuestions::new(plan.seed, worker.number()),
             gate,
             workers: plan.workers,
             text: Vec::new(rt.alloc()),
             cut: false,
         };
-        let worker = Seated {
+        let worker = TableWorker {
             rt,
             gate,
             table,
@@ -123,7 +123,7 @@ fn work<'a, J: Naming + Send + Sync, R: Host + Sync, W: Write>(
 }
 
 /// Writes the questions and answers of the workers, one worker after another.
-fn write_hands<J: Naming, R: Host, W: Write>(
+fn write_hands<J: Naming, R: BenchHost, W: Write>(
     hands: &[Asking<'_, R, J>],
     writer: &mut Watched<W>,
 ) -> Result<(), Refusal> {

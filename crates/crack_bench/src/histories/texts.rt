@@ -3,8 +3,8 @@
 
 use arrayvec::ArrayVec;
 use crack_commands::{
-    LONGEST_TEXT, push, push_count, push_folded, push_gone, push_head, push_placed, push_refusal,
-    push_row, push_sum, send,
+    LONGEST_TEXT, push, push_checkpoint, push_count, push_gone, push_head, push_placed,
+    push_refusal, push_row, push_sum, send,
 };
 use crack_part::Partition;
 use crack_row::{Command, Key, KeyRange, Payload, Refusal, Reply, Row, Watched};
@@ -106,9 +106,12 @@ fn write_refusal<W: Write>(refusal: &Refusal, writer: &mut Watched<W>) -> Result
     send(writer, text.as_slice())
 }
 
-fn write_folded<W: Write>(folded: u64, writer: &mut Watched<W>) -> Result<(), Refusal> {
+fn write_checkpoint_reply<W: Write>(
+    checkpointed: u64,
+    writer: &mut Watched<W>,
+) -> Result<(), Refusal> {
     let mut text = Text::new();
-    push_folded(&mut text, folded);
+    push_checkpoint(&mut text, checkpointed);
     send(writer, text.as_slice())
 }
 
@@ -136,7 +139,7 @@ pub fn write_checkpoint<W: Write>(
 ) -> Result<(), Refusal> {
     written(writeln!(writer, "{part} checkpoint {part}"))?;
     match outcome {
-        Ok(folded) => write_folded(*folded, writer),
+        Ok(checkpointed) => write_checkpoint_reply(*checkpointed, writer),
         Err(refusal) => write_refusal(refusal, writer),
     }
 }
@@ -147,9 +150,9 @@ pub fn write_part<W: Write>(
     partition: &Partition,
     writer: &mut Watched<W>,
 ) -> Result<(), Refusal> {
-    match partition.folded() {
+    match partition.checkpointed() {
         0 => written(writeln!(writer, "partition {part}")),
-        folded => written(writeln!(writer, "partition {part} folded {folded}")),
+        checkpointed => written(writeln!(writer, "partition {part} folded {checkpointed}")),
     }
 }
 

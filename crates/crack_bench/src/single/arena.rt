@@ -1,6 +1,6 @@
 //! Insertions, reads and frees of the arena.
 
-use crate::report::{Outcome, Output, report};
+use crate::report::{BenchOutput, Outcome, report};
 use crate::single::numbers::{Numbers, mixed};
 use crack_arena::{Arena, Handle, MOST_CELLS, MOST_FREED};
 use crack_row::{Key, KeyNumber, Payload, Refusal, Row, Serial};
@@ -8,7 +8,7 @@ use std::time::Instant;
 
 /// Measures this many steps, each an insertion, a read or a free at a random handle, on an arena with this many rows.
 /// Writes how full the arena then is, and a checksum.
-pub fn measure<R: Output>(rt: &R, steps: u64, rows: u32) -> Outcome {
+pub fn measure<R: BenchOutput>(rt: &R, steps: u64, rows: u32) -> Outcome {
     let mut arena = Arena::new(rt.alloc());
     let mut handles = Vec::new(rt.alloc());
     let outcome = measure_steps(rt, &mut arena, &mut handles, steps, rows);
@@ -17,7 +17,7 @@ pub fn measure<R: Output>(rt: &R, steps: u64, rows: u32) -> Outcome {
     outcome
 }
 
-fn measure_steps<R: Output>(
+fn measure_steps<R: BenchOutput>(
     rt: &R,
     arena: &mut Arena<Row>,
     handles: &mut Vec<Handle<Row>>,

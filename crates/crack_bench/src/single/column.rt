@@ -2,7 +2,7 @@
 ghost use Rattle.std.specs.Prelude.{◌≡◌, [], length, OnOk};
 ghost use Rattle.crack_arena.specs.Memories.{Remembers};
 
-use crate::report::{Outcome, Output, report};
+use crate::report::{BenchOutput, Outcome, report};
 use crate::single::arena::fill;
 use crate::single::numbers::{Numbers, mixed};
 use crack_arena::{Arena, Handle};
@@ -20,7 +20,7 @@ const LATER_CRACKS: u32 = 16;
 const LATER_STEP: u32 = 134217728;
 
 /// Measures cracks of a column of random rows.
-pub fn measure<R: Output>(rt: &R, rows: u32) -> Outcome {
+pub fn measure<R: BenchOutput>(rt: &R, rows: u32) -> Outcome {
     let mut arena = Arena::new(rt.alloc());
     let mut handles = Vec::new(rt.alloc());
     let mut column = CrackerColumn::new(rt.alloc());
@@ -31,7 +31,7 @@ pub fn measure<R: Output>(rt: &R, rows: u32) -> Outcome {
     outcome
 }
 
-fn fill_and_crack<R: Output>(
+fn fill_and_crack<R: BenchOutput>(
     rt: &R,
     arena: &mut Arena<Row>,
     handles: &mut Vec<Handle<Row>>,
@@ -48,7 +48,7 @@ fn fill_and_crack<R: Output>(
 }
 
 /// Measures the first crack and the later ones, and writes their checksums.
-fn measure_cracks<R: Output>(rt: &R, column: &mut CrackerColumn, arena: &Arena<Row>) -> Outcome
+fn measure_cracks<R: BenchOutput>(rt: &R, column: &mut CrackerColumn, arena: &Arena<Row>) -> Outcome
     requires { Remembers arena.now.cells column.old.handles column.old.remembered }
 {
     let start = Instant::now(rt)?;

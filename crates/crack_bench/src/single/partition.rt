@@ -1,8 +1,8 @@
 //! A partition that is asked commands with random keys, rows and ranges.
 ghost use Rattle.std.specs.Prelude.{◌<◌};
 
-use crate::seats::number_of;
 use crate::single::numbers::{Numbers, mixed};
+use crate::table_workers::number_of;
 use crack_part::Partition;
 use crack_row::{
     BoundNumber, Command, GREATEST_BOUND, GREATEST_LIMIT, Key, KeyNumber, KeyRange, Payload,

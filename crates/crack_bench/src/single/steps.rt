@@ -1,6 +1,6 @@
 //! The measurements of a partition, as lists of steps.
 
-use crate::report::{Failure, Outcome, Output, report};
+use crate::report::{BenchOutput, Failure, Outcome, report};
 use crate::single::numbers::mixed;
 use crate::single::partition::{Ask, Keys, Measured, Sizes};
 use crack_part::Partition;
@@ -36,7 +36,7 @@ enum Times {
 
 /// A step of a measurement of a partition.
 #[derive(Clone, Copy)]
-enum Step {
+enum BenchStep {
     /// Asks this many times.
     Ask(Ask, Times),
     /// Asks this many times. Writes the time of each under this name.
@@ -69,31 +69,31 @@ pub struct Kind {
     /// How many numbers it takes besides the rows.
     pub numbers: usize,
     /// How the rows are inserted.
-    load: &'static [Step],
+    load: &'static [BenchStep],
     /// The steps after the rows are inserted.
-    steps: &'static [Step],
+    steps: &'static [BenchStep],
 }
 
 /// Inserts all rows, which stay pending.
-const PENDING: &[Step] = &[Step::Ask(Ask::Insert, Times::Rows)];
+const PENDING: &[BenchStep] = &[BenchStep::Ask(Ask::Insert, Times::Rows)];
 
 /// Inserts all rows in the lower half, which stay pending.
-const LOW: &[Step] = &[Step::Ask(Ask::InsertLow, Times::Rows)];
+const LOW: &[BenchStep] = &[BenchStep::Ask(Ask::InsertLow, Times::Rows)];
 
 /// Inserts all rows, half of which stay pending.
-const PARTLY: &[Step] = &[
-    Step::Ask(Ask::Insert, Times::Half),
-    Step::Ask(Ask::Count(Keys::All), Times::Once),
-    Step::Ask(Ask::Insert, Times::OtherHalf),
+const PARTLY: &[BenchStep] = &[
+    BenchStep::Ask(Ask::Insert, Times::Half),
+    BenchStep::Ask(Ask::Count(Keys::All), Times::Once),
+    BenchStep::Ask(Ask::Insert, Times::OtherHalf),
 ];
 
 /// Inserts all rows, and counts them.
-const COUNTED: &[Step] = &[
-    Step::Ask(Ask::Insert, Times::Rows),
-    Step::Time("load"),
-    Step::Ask(Ask::Count(Keys::All), Times::Once),
-    Step::Time("everything"),
-    Step::Last("rows"),
+const COUNTED: &[BenchStep] = &[
+    BenchStep::Ask(Ask::Insert, Times::Rows),
+    BenchStep::Time("load"),
+    BenchStep::Ask(Ask::Count(Keys::All), Times::Once),
+    BenchStep::Time("everything"),
+    BenchStep::Last("rows"),
 ];
 
 /// Sums while every row is pending.
@@ -101,11 +101,11 @@ const COLD: Kind = Kind {
     numbers: 1,
     load: PENDING,
     steps: &[
-        Step::Begin,
-        Step::Ask(Ask::Sum(Keys::Random), Times::First),
-        Step::Time("cold"),
-        Step::Sum("cold"),
-        Step::Tally,
+        BenchStep::Begin,
+        BenchStep::Ask(Ask::Sum(Keys::Random), Times::First),
+        BenchStep::Time("cold"),
+        BenchStep::Sum("cold"),
+        BenchStep::Tally,
     ],
 };
 
@@ -114,10 +114,10 @@ const PASS: Kind = Kind {
     numbers: 1,
     load: LOW,
     steps: &[
-        Step::Begin,
-        Step::Ask(Ask::Sum(Keys::RandomUpper), Times::First),
-        Step::Time("pass"),
-        Step::Sum("pass"),
+        BenchStep::Begin,
+        BenchStep::Ask(Ask::Sum(Keys::RandomUpper), Times::First),
+        BenchStep::Time("pass"),
+        BenchStep::Sum("pass"),
     ],
 };
 
@@ -126,10 +126,10 @@ const COUNTS: Kind = Kind {
     numbers: 1,
     load: COUNTED,
     steps: &[
-        Step::Begin,
-        Step::Ask(Ask::Count(Keys::Random), Times::First),
-        Step::Time("counts"),
-        Step::Sum("counts"),
+        BenchStep::Begin,
+        BenchStep::Ask(Ask::Count(Keys::Random), Times::First),
+        BenchStep::Time("counts"),
+        BenchStep::Sum("counts"),
     ],
 };
 
@@ -138,13 +138,13 @@ const SUMS: Kind = Kind {
     numbers: 1,
     load: COUNTED,
     steps: &[
-        Step::Begin,
-        Step::Ask(Ask::Sum(Keys::Random), Times::First),
-        Step::Time("sums"),
-        Step::Again,
-        Step::Ask(Ask::Sum(Keys::Random), Times::First),
-        Step::Time("again"),
-        Step::Sum("sums"),
+        BenchStep::Begin,
+        BenchStep::Ask(Ask::Sum(Keys::Random), Times::First),
+        BenchStep::Time("sums"),
+        BenchStep::Again,
+        BenchStep::Ask(Ask::Sum(Keys::Random), Times::First),
+        BenchStep::Time("again"),
+        BenchStep::Sum("sums"),
     ],
 };
 
@@ -153,9 +153,9 @@ const EACH: Kind = Kind {
     numbers: 1,
     load: COUNTED,
     steps: &[
-        Step::Begin,
-        Step::Each(Ask::Sum(Keys::Random), Times::First, "sum"),
-        Step::Sum("each"),
+        BenchStep::Begin,
+        BenchStep::Each(Ask::Sum(Keys::Random), Times::First, "sum"),
+        BenchStep::Sum("each"),
     ],
 };
 
@@ -164,12 +164,12 @@ const UPDATES: Kind = Kind {
     numbers: 2,
     load: COUNTED,
     steps: &[
-        Step::List,
-        Step::Begin,
-        Step::Batches(Times::First, Keys::Random),
-        Step::Time("updates"),
-        Step::Sum("updates"),
-        Step::Tally,
+        BenchStep::List,
+        BenchStep::Begin,
+        BenchStep::Batches(Times::First, Keys::Random),
+        BenchStep::Time("updates"),
+        BenchStep::Sum("updates"),
+        BenchStep::Tally,
     ],
 };
 
@@ -178,16 +178,16 @@ const AGEING: Kind = Kind {
     numbers: 2,
     load: COUNTED,
     steps: &[
-        Step::List,
-        Step::Begin,
-        Step::Batches(Times::Tenth, Keys::Narrow),
-        Step::Time("first"),
-        Step::Batches(Times::EightTenths, Keys::Narrow),
-        Step::Time("middle"),
-        Step::Batches(Times::Tenth, Keys::Narrow),
-        Step::Time("last"),
-        Step::Sum("ageing"),
-        Step::Tally,
+        BenchStep::List,
+        BenchStep::Begin,
+        BenchStep::Batches(Times::Tenth, Keys::Narrow),
+        BenchStep::Time("first"),
+        BenchStep::Batches(Times::EightTenths, Keys::Narrow),
+        BenchStep::Time("middle"),
+        BenchStep::Batches(Times::Tenth, Keys::Narrow),
+        BenchStep::Time("last"),
+        BenchStep::Sum("ageing"),
+        BenchStep::Tally,
     ],
 };
 
@@ -196,11 +196,11 @@ const CLIMB: Kind = Kind {
     numbers: 2,
     load: COUNTED,
     steps: &[
-        Step::List,
-        Step::Begin,
-        Step::Batches(Times::First, Keys::Rising),
-        Step::Time("climb"),
-        Step::Sum("climb"),
+        BenchStep::List,
+        BenchStep::Begin,
+        BenchStep::Batches(Times::First, Keys::Rising),
+        BenchStep::Time("climb"),
+        BenchStep::Sum("climb"),
     ],
 };
 
@@ -209,10 +209,10 @@ const RISING: Kind = Kind {
     numbers: 1,
     load: COUNTED,
     steps: &[
-        Step::Begin,
-        Step::Ask(Ask::Sum(Keys::Rising), Times::First),
-        Step::Time("rising"),
-        Step::Sum("rising"),
+        BenchStep::Begin,
+        BenchStep::Ask(Ask::Sum(Keys::Rising), Times::First),
+        BenchStep::Time("rising"),
+        BenchStep::Sum("rising"),
     ],
 };
 
@@ -221,10 +221,10 @@ const NARROW: Kind = Kind {
     numbers: 1,
     load: COUNTED,
     steps: &[
-        Step::Begin,
-        Step::Ask(Ask::Sum(Keys::Narrow), Times::First),
-        Step::Time("narrow"),
-        Step::Sum("narrow"),
+        BenchStep::Begin,
+        BenchStep::Ask(Ask::Sum(Keys::Narrow), Times::First),
+        BenchStep::Time("narrow"),
+        BenchStep::Sum("narrow"),
     ],
 };
 
@@ -233,13 +233,13 @@ const MERGE: Kind = Kind {
     numbers: 2,
     load: COUNTED,
     steps: &[
-        Step::Ask(Ask::Count(Keys::Below), Times::Bounds),
-        Step::Ask(Ask::Insert, Times::Second),
-        Step::Begin,
-        Step::Ask(Ask::Count(Keys::All), Times::Once),
-        Step::Time("merge"),
-        Step::Last("merge"),
-        Step::Tally,
+        BenchStep::Ask(Ask::Count(Keys::Below), Times::Bounds),
+        BenchStep::Ask(Ask::Insert, Times::Second),
+        BenchStep::Begin,
+        BenchStep::Ask(Ask::Count(Keys::All), Times::Once),
+        BenchStep::Time("merge"),
+        BenchStep::Last("merge"),
+        BenchStep::Tally,
     ],
 };
 
@@ -248,13 +248,13 @@ const PULLS: Kind = Kind {
     numbers: 2,
     load: COUNTED,
     steps: &[
-        Step::Ask(Ask::Count(Keys::Below), Times::Bounds),
-        Step::Ask(Ask::DeleteAny, Times::Second),
-        Step::Begin,
-        Step::Ask(Ask::Count(Keys::All), Times::Once),
-        Step::Time("pulls"),
-        Step::Last("pulls"),
-        Step::Tally,
+        BenchStep::Ask(Ask::Count(Keys::Below), Times::Bounds),
+        BenchStep::Ask(Ask::DeleteAny, Times::Second),
+        BenchStep::Begin,
+        BenchStep::Ask(Ask::Count(Keys::All), Times::Once),
+        BenchStep::Time("pulls"),
+        BenchStep::Last("pulls"),
+        BenchStep::Tally,
     ],
 };
 
@@ -264,26 +264,26 @@ const FOLD: Kind = Kind {
     numbers: 1,
     load: PARTLY,
     steps: &[
-        Step::Checkpoint("fold"),
-        Step::List,
-        Step::Ask(Ask::Delete, Times::First),
-        Step::Ask(Ask::Count(Keys::All), Times::Once),
-        Step::Ask(Ask::Insert, Times::First),
-        Step::Ask(Ask::Count(Keys::All), Times::Once),
-        Step::Ask(Ask::Count(Keys::Upper), Times::Once),
-        Step::Begin,
-        Step::Ask(Ask::Count(Keys::Upper), Times::Next),
-        Step::Time("counts_before"),
-        Step::Ask(Ask::InsertLow, Times::Next),
-        Step::Time("inserts_before"),
-        Step::Next,
-        Step::Checkpoint("mixed_fold"),
-        Step::Begin,
-        Step::Ask(Ask::Count(Keys::Upper), Times::Next),
-        Step::Time("counts_after"),
-        Step::Ask(Ask::InsertLow, Times::Next),
-        Step::Time("inserts_after"),
-        Step::Next,
+        BenchStep::Checkpoint("fold"),
+        BenchStep::List,
+        BenchStep::Ask(Ask::Delete, Times::First),
+        BenchStep::Ask(Ask::Count(Keys::All), Times::Once),
+        BenchStep::Ask(Ask::Insert, Times::First),
+        BenchStep::Ask(Ask::Count(Keys::All), Times::Once),
+        BenchStep::Ask(Ask::Count(Keys::Upper), Times::Once),
+        BenchStep::Begin,
+        BenchStep::Ask(Ask::Count(Keys::Upper), Times::Next),
+        BenchStep::Time("counts_before"),
+        BenchStep::Ask(Ask::InsertLow, Times::Next),
+        BenchStep::Time("inserts_before"),
+        BenchStep::Next,
+        BenchStep::Checkpoint("mixed_fold"),
+        BenchStep::Begin,
+        BenchStep::Ask(Ask::Count(Keys::Upper), Times::Next),
+        BenchStep::Time("counts_after"),
+        BenchStep::Ask(Ask::InsertLow, Times::Next),
+        BenchStep::Time("inserts_after"),
+        BenchStep::Next,
     ],
 };
 
@@ -308,7 +308,7 @@ pub fn kind_of(name: &str) -> Option<Kind> {
 }
 
 /// Carries out a measurement of a new partition that merges by this policy, and writes results and times.
-pub fn measure<R: Output>(rt: &R, kind: Kind, policy: Policy, sizes: Sizes) -> Outcome {
+pub fn measure<R: BenchOutput>(rt: &R, kind: Kind, policy: Policy, sizes: Sizes) -> Outcome {
     let mut table = Measured::open(rt.alloc(), policy, sizes)?;
     let outcome = match take_all(rt, &mut table, kind.load) {
         Ok(()) => take_all(rt, &mut table, kind.steps),
@@ -319,7 +319,7 @@ pub fn measure<R: Output>(rt: &R, kind: Kind, policy: Policy, sizes: Sizes) -> O
 }
 
 /// Takes the steps of a list, in order.
-fn take_all<R: Output>(rt: &R, table: &mut Measured, steps: &[Step]) -> Outcome {
+fn take_all<R: BenchOutput>(rt: &R, table: &mut Measured, steps: &[BenchStep]) -> Outcome {
     let mut start = Instant::now(rt)?;
     'steps: for step in steps {
         start = take(rt, table, *step, start)?;
@@ -328,19 +328,19 @@ fn take_all<R: Output>(rt: &R, table: &mut Measured, steps: &[Step]) -> Outcome 
 }
 
 /// Takes a step of a part that began at `start`. Returns when the part of the next step began.
-fn take<R: Output>(
+fn take<R: BenchOutput>(
     rt: &R,
     table: &mut Measured,
-    step: Step,
+    step: BenchStep,
     start: Instant,
 ) -> Result<Instant, Failure> {
     match step {
-        Step::Begin => {
+        BenchStep::Begin => {
             table.begun = table.numbers;
             table.sum = 0;
             Ok(Instant::now(rt)?)
         }
-        Step::Time(name) => Ok(report(rt, name, start)?),
+        BenchStep::Time(name) => Ok(report(rt, name, start)?),
         _ => {
             carry_out(rt, table, step)?;
             Ok(start)
@@ -349,29 +349,29 @@ fn take<R: Output>(
 }
 
 /// Takes a step that neither begins a part nor writes its time.
-fn carry_out<R: Output>(rt: &R, table: &mut Measured, step: Step) -> Outcome {
+fn carry_out<R: BenchOutput>(rt: &R, table: &mut Measured, step: BenchStep) -> Outcome {
     match step {
-        Step::Ask(ask, times) => Ok(table.repeat(ask, number_of(times, table.sizes))?),
-        Step::Each(ask, times, name) => measure_each(rt, table, ask, times, name),
-        Step::Batches(times, keys) => {
+        BenchStep::Ask(ask, times) => Ok(table.repeat(ask, number_of(times, table.sizes))?),
+        BenchStep::Each(ask, times, name) => measure_each(rt, table, ask, times, name),
+        BenchStep::Batches(times, keys) => {
             Ok(table.update_in_batches(number_of(times, table.sizes), keys)?)
         }
-        Step::List => Ok(table.list_rows(rt.alloc())?),
-        Step::Again => {
+        BenchStep::List => Ok(table.list_rows(rt.alloc())?),
+        BenchStep::Again => {
             table.numbers = table.begun;
             Ok(())
         }
-        Step::Last(name) => write(rt, name, table.last),
-        Step::Sum(name) => write(rt, name, table.sum),
-        Step::Tally => write_tally(rt, &table.partition),
-        Step::Next => measure_next(rt, table),
-        Step::Checkpoint(name) => measure_checkpoint(rt, table, name),
-        Step::Begin | Step::Time(_) => Ok(()),
+        BenchStep::Last(name) => write(rt, name, table.last),
+        BenchStep::Sum(name) => write(rt, name, table.sum),
+        BenchStep::Tally => write_tally(rt, &table.partition),
+        BenchStep::Next => measure_next(rt, table),
+        BenchStep::Checkpoint(name) => measure_checkpoint(rt, table, name),
+        BenchStep::Begin | BenchStep::Time(_) => Ok(()),
     }
 }
 
 /// Asks this many times, and writes the time of each.
-fn measure_each<R: Output>(
+fn measure_each<R: BenchOutput>(
     rt: &R,
     table: &mut Measured,
     ask: Ask,
@@ -403,23 +403,23 @@ fn number_of(times: Times, sizes: Sizes) -> u32 {
 }
 
 /// Writes a result: its name and its number.
-fn write<R: Output>(rt: &R, name: &str, number: u64) -> Outcome {
+fn write<R: BenchOutput>(rt: &R, name: &str, number: u64) -> Outcome {
     println!(rt; "{name} {number}")?;
     Ok(())
 }
 
 /// Writes the counts of the partition's merges.
-fn write_tally<R: Output>(rt: &R, partition: &Partition) -> Outcome {
+fn write_tally<R: BenchOutput>(rt: &R, partition: &Partition) -> Outcome {
     let did = partition.tally();
-    let (put_in, taken_out, evicted) = (did.put_in, did.taken_out, did.evicted);
-    eprintln!(rt; "put_in {put_in}\ntaken_out {taken_out}\nevicted {evicted}")?;
+    let (insertions, deletions, evicted) = (did.insertions, did.deletions, did.evicted);
+    eprintln!(rt; "put_in {insertions}\ntaken_out {deletions}\nevicted {evicted}")?;
     let (moved, pulled) = (did.moved, did.pulled);
     eprintln!(rt; "moved {moved}\npulled {pulled}")?;
     Ok(())
 }
 
 /// Takes the step `Next`.
-fn measure_next<R: Output>(rt: &R, table: &mut Measured) -> Outcome {
+fn measure_next<R: BenchOutput>(rt: &R, table: &mut Measured) -> Outcome {
     let sum = table.sum;
     table.repeat(Ask::Count(Keys::All), 1)?;
     let everything = table.last;
@@ -428,7 +428,7 @@ fn measure_next<R: Output>(rt: &R, table: &mut Measured) -> Outcome {
 }
 
 /// Takes the step `Checkpoint`.
-fn measure_checkpoint<R: Output>(rt: &R, table: &mut Measured, name: &str) -> Outcome {
+fn measure_checkpoint<R: BenchOutput>(rt: &R, table: &mut Measured, name: &str) -> Outcome {
     let start = Instant::now(rt)?;
     let entries = table.partition.checkpoint();
     report(rt, name, start)?;

@@ -1,14 +1,14 @@
 //! Partitions that are asked directly, without locks and receipts.
 
-use crate::report::{Host, Outcome};
-use crate::seats::Asks;
+use crate::report::{BenchHost, Outcome};
+use crate::table_workers::AnswersCommands;
 use crate::workers::measuring::POLICY;
-use crate::workers::mix::{Mix, PART_WIDTH, PARTS_EACH, Parts, count_all};
+use crate::workers::mix::{Mix, PART_WIDTH, PARTS_EACH, PartSpan, count_all};
 use crack_part::Partition;
 use crack_row::{BoundNumber, Command, GREATEST_LIMIT, KeyRange, Refusal, Reply};
 use std::alloc::Global;
 
-impl Asks for Vec<Partition> {
+impl AnswersCommands for Vec<Partition> {
     fn ask(&mut self, part: u32, command: Command) -> Result<Reply, Refusal> {
         match self.get_mut(part as usize) {
             Some(partition) => partition.apply(command, POLICY),
@@ -18,9 +18,9 @@ impl Asks for Vec<Partition> {
 }
 
 /// Takes the steps of one worker at partitions without a table, and writes the results.
-pub fn run<R: Host>(rt: &R, rows: u32, steps: u32) -> Outcome {
+pub fn run<R: BenchHost>(rt: &R, rows: u32, steps: u32) -> Outcome {
     let mut partitions = opened(rt.alloc())?;
-    let parts = Parts {
+    let parts = PartSpan {
         first: 0,
         count: PARTS_EACH,
     };

@@ -1,8 +1,8 @@
 //! The measurements of a table's workers, and their times.
 
-use crate::report::{Host, Outcome, Output, report};
-use crate::seats::{Hand, Seated, Works, leave, work_on_threads};
-use crate::workers::mix::{Mix, PARTS_EACH, Parts, count_all};
+use crate::report::{BenchHost, BenchOutput, Outcome, report};
+use crate::table_workers::{Hand, TableWorker, Works, leave, work_on_threads};
+use crate::workers::mix::{Mix, PARTS_EACH, PartSpan, count_all};
 use crack_row::{Policy, Refusal};
 use crack_table::{OpenGate, Table, gather};
 use crack_witness::{Naming, Worker};
@@ -39,23 +39,23 @@ pub enum Work {
 
 /// What happens to the workers at the end of a run: they are gathered or dropped.
 #[derive(Clone, Copy)]
-pub enum End {
+pub enum RunEnd {
     Gather,
     Leave,
 }
 
 /// The parameters of a run over one table.
 #[derive(Clone, Copy)]
-pub struct Run {
+pub struct MeasuredRun {
     pub workers: u32,
     pub sharing: Sharing,
     /// How many rows are inserted for each partition.
     pub rows: u32,
     pub work: Work,
-    pub end: End,
+    pub end: RunEnd,
 }
 
-impl Run {
+impl MeasuredRun {
     /// How many partitions there are.
     pub fn parts(&self) -> u32 {
         self.workers.saturating_mul(PARTS_EACH)
@@ -64,11 +64,11 @@ impl Run {
     /// The commands of the worker with this number.
     fn mix(&self, alloc: Global, worker: u32) -> Mix {
         let parts = match self.sharing {
-            Sharing::Own => Parts {
+            Sharing::Own => PartSpan {
                 first: worker.wrapping_mul(PARTS_EACH),
                 count: PARTS_EACH,
             },
-            Sharing::Shared => Parts {
+            Sharing::Shared => PartSpan {
                 first: 0,
                 count: self.parts(),
             },
@@ -78,15 +78,15 @@ impl Run {
 }
 
 /// Carries out a run over a table and its workers.
-pub fn run_over<J: Naming + Send + Sync, R: Host>(
+pub fn run_over<J: Naming + Send + Sync, R: BenchHost>(
     rt: &R,
     table: Table<J>,
     workers: Vec<Worker<J>>,
-    run: Run,
+    run: MeasuredRun,
 ) -> Outcome {
     let mut left = Vec::new(rt.alloc());
     match carry_out(rt, &table, workers, run, &mut left) {
-        Ok(()) if matches!(run.end, End::Gather) => gather_all(rt, table, left),
+        Ok(()) if matches!(run.end, RunEnd::Gather) => gather_all(rt, table, left),
         outcome => {
             drop(left);
             drop(table);
@@ -96,16 +96,16 @@ pub fn run_over<J: Naming + Send + Sync, R: Host>(
 }
 
 /// Has the workers carry out a run, and then moves them to `left`.
-fn carry_out<J: Naming + Send + Sync, R: Host + Sync>(
+fn carry_out<J: Naming + Send + Sync, R: BenchHost + Sync>(
     rt: &R,
     table: &Table<J>,
     workers: Vec<Worker<J>>,
-    run: Run,
+    run: MeasuredRun,
     left: &mut Vec<Worker<J>>,
 ) -> Outcome {
     let gate = OpenGate;
     let mut hands = Vec::new(rt.alloc());
-    let outcome = match seat(rt, &gate, table, workers, run, &mut hands) {
+    let outcome = match add_workers(rt, &gate, table, workers, run, &mut hands) {
         Ok(()) => measure(rt, &mut hands, run),
         Err(refusal) => Err(refusal.into()),
     };
@@ -119,17 +119,17 @@ fn carry_out<J: Naming + Send + Sync, R: Host + Sync>(
 }
 
 /// Adds each worker to `hands`, with the table, the gate and its commands.
-fn seat<'a, J: Naming, R: Host + Sync>(
+fn add_workers<'a, J: Naming, R: BenchHost + Sync>(
     rt: &'a R,
     gate: &'a OpenGate,
     table: &'a Table<J>,
     workers: Vec<Worker<J>>,
-    run: Run,
-    hands: &mut Vec<Hand<Seated<'a, R, OpenGate, J>, Mix>>,
+    run: MeasuredRun,
+    hands: &mut Vec<Hand<TableWorker<'a, R, OpenGate, J>, Mix>>,
 ) -> Result<(), Refusal> {
     'workers: for worker in workers {
         let questions = run.mix(rt.alloc(), worker.number());
-        let worker = Seated {
+        let worker = TableWorker {
             rt,
             gate,
             table,
@@ -142,10 +142,10 @@ fn seat<'a, J: Naming, R: Host + Sync>(
 }
 
 /// Inserts the rows, and has the workers carry out the run.
-fn measure<R: Host, A: Works + Send + Drop>(
+fn measure<R: BenchHost, A: Works + Send + Drop>(
     rt: &R,
     hands: &mut Vec<Hand<A, Mix>>,
-    run: Run,
+    run: MeasuredRun,
 ) -> Outcome {
     let start = Instant::now(rt)?;
     load(hands, run.rows)?;
@@ -169,10 +169,10 @@ fn load<A: Works>(hands: &mut [Hand<A, Mix>], rows: u32) -> Result<(), Refusal> 
 
 /// Counts all rows, and measures the workers' steps. The sums of shared partitions depend on the workers' order, so
 /// they aren't written.
-fn measure_threads<R: Host, A: Works + Send + Drop>(
+fn measure_threads<R: BenchHost, A: Works + Send + Drop>(
     rt: &R,
     hands: &mut Vec<Hand<A, Mix>>,
-    run: Run,
+    run: MeasuredRun,
     steps: u32,
 ) -> Outcome {
     let everything = match hands.first_mut() {
@@ -200,7 +200,11 @@ fn sum_of<A>(hands: &[Hand<A, Mix>]) -> Result<u64, Refusal> {
 }
 
 /// Counts all rows, and measures the steps of the first worker.
-fn measure_alone<R: Output, A: Works>(rt: &R, hands: &mut [Hand<A, Mix>], steps: u32) -> Outcome {
+fn measure_alone<R: BenchOutput, A: Works>(
+    rt: &R,
+    hands: &mut [Hand<A, Mix>],
+    steps: u32,
+) -> Outcome {
     let Some(hand) = hands.first_mut() else {
         return Ok(());
     };
@@ -226,7 +230,11 @@ fn checkpoint_all<A: Works>(hands: &mut [Hand<A, Mix>], parts: u32) -> Result<()
 
 /// Gathers the workers. Writes how long that took, before and after the partitions are dropped, and the totals.
 /// Refused as `gather` is.
-fn gather_all<J: Naming, R: Output>(rt: &R, table: Table<J>, workers: Vec<Worker<J>>) -> Outcome {
+fn gather_all<J: Naming, R: BenchOutput>(
+    rt: &R,
+    table: Table<J>,
+    workers: Vec<Worker<J>>,
+) -> Outcome {
     let start = Instant::now(rt)?;
     match gather(rt.alloc(), table, workers) {
         Ok(gathered) => {
@@ -246,7 +254,7 @@ fn gather_all<J: Naming, R: Output>(rt: &R, table: Table<J>, workers: Vec<Worker
 }
 
 /// Writes the totals of gathered workers, and how long the gathering took.
-fn print_totals<R: Output>(rt: &R, start: Instant, totals: [u64; 4]) -> io::Result<()> {
+fn print_totals<R: BenchOutput>(rt: &R, start: Instant, totals: [u64; 4]) -> io::Result<()> {
     report(rt, "gather", start)?;
     let [accepted, inserted, deleted, held] = totals;
     print!(rt; "accepted {accepted} inserted {inserted} ")?;

@@ -1,7 +1,7 @@
 //! The commands of each worker (half are sums of a hundredth of a partition's keys, a quarter deletes, a quarter
 //! inserts), and the keys of the partitions.
 
-use crate::seats::{Asks, Questions, Works, number_of};
+use crate::table_workers::{AnswersCommands, Questions, Works, number_of};
 use crack_row::{
     Bound, BoundNumber, Command, Key, KeyNumber, KeyRange, Payload, PayloadNumber, Refusal, Serial,
 };
@@ -18,14 +18,14 @@ const RANGE_WIDTH: u32 = PART_WIDTH / 100;
 
 /// Adjacent partitions: the number of the first, and how many there are.
 #[derive(Clone, Copy)]
-pub struct Parts {
+pub struct PartSpan {
     pub first: u32,
     pub count: u32,
 }
 
 /// A row that was inserted: its partition and its serial.
 #[derive(Clone, Copy)]
-struct Placed {
+struct InsertedRow {
     part: u32,
     serial: Serial,
 }
@@ -33,8 +33,8 @@ struct Placed {
 /// The next commands of one worker, and the rows that it inserted.
 #[derive(Drop)]
 pub struct Mix {
-    parts: Parts,
-    rows: Vec<Placed>,
+    parts: PartSpan,
+    rows: Vec<InsertedRow>,
     number: u32,
     /// The total of the sums of its last steps.
     pub sums: Result<u64, Refusal>,
@@ -48,7 +48,7 @@ impl Questions for Mix {
 
 impl Mix {
     /// A mix over these partitions, which begins at this number.
-    pub fn new(alloc: Global, parts: Parts, number: u32) -> Mix {
+    pub fn new(alloc: Global, parts: PartSpan, number: u32) -> Mix {
         Mix {
             parts,
             rows: Vec::new(alloc),
@@ -72,7 +72,7 @@ impl Mix {
     }
 
     /// Inserts a row into one of the partitions.
-    fn insert<A: Asks>(&mut self, asked: &mut A) -> Result<Placed, Refusal> {
+    fn insert<A: AnswersCommands>(&mut self, asked: &mut A) -> Result<InsertedRow, Refusal> {
         let part = self.next_part();
         let key = part
             .wrapping_mul(PART_WIDTH)
@@ -82,14 +82,14 @@ impl Mix {
             payload: Payload::from_number(PayloadNumber::from(key)),
         };
         let reply = asked.ask(part, insert)?;
-        Ok(Placed {
+        Ok(InsertedRow {
             part,
             serial: Serial(number_of(&reply)),
         })
     }
 
     /// Asks for the sum of a range of one of the partitions.
-    fn sum<A: Asks>(&mut self, asked: &mut A) -> Result<u64, Refusal> {
+    fn sum<A: AnswersCommands>(&mut self, asked: &mut A) -> Result<u64, Refusal> {
         let part = self.next_part();
         let low = part
             .wrapping_mul(PART_WIDTH)
@@ -101,19 +101,19 @@ impl Mix {
     }
 
     /// Deletes one of the rows. Returns its index, or 0 if there is no row.
-    fn delete<A: Asks>(&mut self, asked: &mut A) -> Result<usize, Refusal> {
+    fn delete<A: AnswersCommands>(&mut self, asked: &mut A) -> Result<usize, Refusal> {
         let number = self.next() as usize;
         if self.rows.is_empty() {
             return Ok(0);
         }
         let at = number % self.rows.len();
-        let Placed { part, serial } = self.rows[at];
+        let InsertedRow { part, serial } = self.rows[at];
         asked.ask(part, Command::Delete { serial })?;
         Ok(at)
     }
 
     /// Inserts this many rows with random keys into random ones of the partitions.
-    pub fn load<A: Asks>(&mut self, asked: &mut A, rows: u32) -> Result<(), Refusal> {
+    pub fn load<A: AnswersCommands>(&mut self, asked: &mut A, rows: u32) -> Result<(), Refusal> {
         'rows: for _ in 0..rows {
             let placed = self.insert(asked)?;
             self.rows.push(placed)?;
@@ -123,7 +123,7 @@ impl Mix {
 
     /// Asks for a sum, a delete, a sum and an insert, whose row replaces the deleted one. Returns the total of both
     /// sums.
-    fn step<A: Asks>(&mut self, asked: &mut A) -> Result<u64, Refusal> {
+    fn step<A: AnswersCommands>(&mut self, asked: &mut A) -> Result<u64, Refusal> {
         let first = self.sum(asked)?;
         let at = self.delete(asked)?;
         let second = self.sum(asked)?;
@@ -135,7 +135,7 @@ impl Mix {
     }
 
     /// Takes this many steps of four statements each. Returns the total of all sums.
-    pub fn steps<A: Asks>(&mut self, asked: &mut A, count: u64) -> Result<u64, Refusal> {
+    pub fn steps<A: AnswersCommands>(&mut self, asked: &mut A, count: u64) -> Result<u64, Refusal> {
         let mut total = 0u64;
         'steps: for _ in 0..count {
             total = total.wrapping_add(self.step(asked)?);
@@ -145,7 +145,7 @@ impl Mix {
 }
 
 /// Counts the rows of the first `parts` partitions.
-pub fn count_all<A: Asks>(asked: &mut A, parts: u32) -> Result<u64, Refusal> {
+pub fn count_all<A: AnswersCommands>(asked: &mut A, parts: u32) -> Result<u64, Refusal> {
     let mut total = 0u64;
     'parts: for part in 0..parts {
         let reply = asked.ask(part, Command::Count(KeyRange::all()))?;

@@ -1,8 +1,8 @@
 //! Opening the table of a run.
 ghost use Rattle.crack_witness.specs.Witnesses.{AreNames};
 
-use crate::report::{Host, Outcome};
-use crate::workers::measuring::{Run, run_over};
+use crate::report::{BenchHost, Outcome};
+use crate::workers::measuring::{MeasuredRun, run_over};
 use crate::workers::mix::splits;
 use crack_row::{GREATEST_LIMIT, Limits};
 use crack_table::UnnamedTable;
@@ -10,7 +10,7 @@ use crack_witness::Naming;
 use std::marker::Brand;
 
 /// Opens a table, with an audit or without, and carries out the run.
-pub fn run<R: Host>(rt: &R, is_audited: bool, run: Run) -> Outcome {
+pub fn run<R: BenchHost>(rt: &R, is_audited: bool, run: MeasuredRun) -> Outcome {
     let splits = splits(rt.alloc(), run.parts())?;
     let limits = Limits::of_history(GREATEST_LIMIT);
     let workers = u64::from(run.workers);
@@ -23,7 +23,11 @@ pub fn run<R: Host>(rt: &R, is_audited: bool, run: Run) -> Outcome {
 }
 
 /// Opens the table under the name `J`, which matters only to proofs, and carries out the run.
-fn run_named<J: Naming + Send + Sync, R: Host>(rt: &R, table: UnnamedTable, run: Run) -> Outcome
+fn run_named<J: Naming + Send + Sync, R: BenchHost>(
+    rt: &R,
+    table: UnnamedTable,
+    run: MeasuredRun,
+) -> Outcome
     requires { AreNames J.book J.owner table.opened }
 {
     match table.named::<J>(rt.alloc()) {

@@ -15,11 +15,11 @@ use Rattle.crack_core.proofs.ShortLaws.{may-lack}
 use Rattle.crack_core.proofs.cores.ask_at.Goals as goal
 
 -- the partition as it was
-abbrev asked : (c : goal.After-facts) → Part
+abbrev asked : (c : goal.After-recall_invariant) → Part
 asked c = get_or c.args.partitions.now c.args.step.part c.index-partitions-part.result
 
 -- its plain table is that after the step
-kept : (c : goal.After-facts) → table_of c.apply-answered.new.self ≡ after_job (asked c).limits c.args.step.part (Perform c.args.step) (mapped Replied c.apply-answered.result) (table_of (asked c))
+kept : (c : goal.After-recall_invariant) → table_of c.apply-answered.new.self ≡ after_job (asked c).limits c.args.step.part (Perform c.args.step) (mapped Replied c.apply-answered.result) (table_of (asked c))
 kept c = table-given (asked c).limits (table_of (asked c)) (table_of c.apply-answered.new.self) c.args.step c.apply-answered.result c.apply-answered.ensures.table c.apply-answered.ensures.err
 
 if_err : (r : Result Reply Refusal) (P Q : Refusal → Type 0) → ((e : Refusal) → P e → Q e) → IfErr r P → IfErr r Q
@@ -56,7 +56,7 @@ pub returns-clause-parts : goal.returns-clause-parts
 returns-clause-parts c = λ splits limits are.
     let opened = c.apply-answered.ensures.opened in
     let within : c.args.step.part < length c.args.partitions.now = omega arith in
-    AreParts-set splits limits c.args.partitions.now c.args.step.part c.apply-answered.new.self c.index-partitions-part.result within are opened.0 opened.1 c.facts.ensures
+    AreParts-set splits limits c.args.partitions.now c.args.step.part c.apply-answered.new.self c.index-partitions-part.result within are opened.0 opened.1 c.recall_invariant.ensures
 
 pub returns-clause-others : goal.returns-clause-others
 returns-clause-others c = λ k differs. get-set_other c.args.partitions.now c.args.step.part k c.apply-answered.new.self differs

@@ -1,5 +1,5 @@
 use Rattle.std.proofs.Common.{ap, ◌∙◌}
-use Rattle.crack_core.specs.declared.step.Done.TheVariants.{Folded}
+use Rattle.crack_core.specs.declared.step.Done.TheVariants.{CheckpointMade}
 use Rattle.crack_core.specs.Steps.{mapped}
 use Rattle.crack_core.proofs.cores.do_job.Goals as goal
 
@@ -19,15 +19,15 @@ returns-in-Perform-clause-does c = λ splits limits are.
       },
     )
 
-pub returns-in-Fold-clause-does : goal.returns-in-Fold-clause-does
-returns-in-Fold-clause-does c = λ splits limits are.
-    let made = c.fold_at.ensures in
-    rw c.in-Fold.is (
-      c.fold_at.result,
-      c.folding.ensures,
+pub returns-in-Checkpoint-clause-does : goal.returns-in-Checkpoint-clause-does
+returns-in-Checkpoint-clause-does c = λ splits limits are.
+    let made = c.checkpoint_at.ensures in
+    rw c.in-Checkpoint.is (
+      c.checkpoint_at.result,
+      c.checkpoint_done.ensures,
       record {
         parts = made.parts splits limits are;
-        folds = made.folds;
+        checkpoints = made.checkpoints;
         same = made.same;
       },
     )
@@ -35,11 +35,11 @@ returns-in-Fold-clause-does c = λ splits limits are.
 pub returns-in-Perform-clause-kept : goal.returns-in-Perform-clause-kept
 returns-in-Perform-clause-kept c = λ splits limits are. rw (c.in-Perform.is, c.performed.ensures) (c.ask_at.ensures.kept splits limits are)
 
-pub returns-in-Fold-clause-kept : goal.returns-in-Fold-clause-kept
-returns-in-Fold-clause-kept c = λ splits limits are. rw (c.in-Fold.is, c.folding.ensures) (c.fold_at.ensures.kept limits)
+pub returns-in-Checkpoint-clause-kept : goal.returns-in-Checkpoint-clause-kept
+returns-in-Checkpoint-clause-kept c = λ splits limits are. rw (c.in-Checkpoint.is, c.checkpoint_done.ensures) (c.checkpoint_at.ensures.kept limits)
 
-pub returns-in-Fold-clause-outcome : goal.returns-in-Fold-clause-outcome
-returns-in-Fold-clause-outcome c = λ splits limits are. rw c.in-Fold.is (c.folding.ensures ∙ ap (mapped Folded) c.fold_at.ensures.outcome)
+pub returns-in-Checkpoint-clause-outcome : goal.returns-in-Checkpoint-clause-outcome
+returns-in-Checkpoint-clause-outcome c = λ splits limits are. rw c.in-Checkpoint.is (c.checkpoint_done.ensures ∙ ap (mapped CheckpointMade) c.checkpoint_at.ensures.outcome)
 
 pub returns-in-Perform-clause-outcome : goal.returns-in-Perform-clause-outcome
 returns-in-Perform-clause-outcome c = λ splits limits are. rw c.in-Perform.is (c.ask_at.result, c.performed.ensures, c.ask_at.ensures.outcome splits limits are)

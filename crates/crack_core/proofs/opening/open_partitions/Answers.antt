@@ -21,8 +21,8 @@ keys-push splits parts p before now k d k_lt = ⊎_elim
     (cases_lt k (length parts))
 
 -- a partition that has placed no row and accepted no command
-fresh : (p : Part) (keys : Range) (column_room in_room : ℕ) → p.next ≡ 0 → p.folded ≡ 0 → p.since ≡ 0 → p.store ≡ no_cells keys column_room in_room → table_of p ≡ fresh_table
-fresh p keys column_room in_room next folded since store = rw (next, folded, since, store) refl
+fresh : (p : Part) (keys : Range) (column_room in_room : ℕ) → p.next ≡ 0 → p.checkpointed ≡ 0 → p.since ≡ 0 → p.store ≡ no_cells keys column_room in_room → table_of p ≡ fresh_table
+fresh p keys column_room in_room next checkpointed since store = rw (next, checkpointed, since, store) refl
 
 pub loop-part-preserved : goal.loop-part-preserved
 loop-part-preserved c =
@@ -37,7 +37,7 @@ loop-part-preserved c =
       count = omega (arith, length-append parts (p ∷ []), before.count);
       keys = keys-push c.args.splits.now parts p before.keys keys;
       alike = All-push (λ (part : Part). part.limits ≡ c.args.limits) parts p before.alike opened.1;
-      sound = All-push IsSound parts p before.sound c.facts.ensures;
+      sound = All-push IsSound parts p before.sound c.recall_invariant.ensures;
       fresh = All-push (λ (part : Part). table_of part ≡ fresh_table) parts p before.fresh (fresh p p.keys p.store.column_room p.store.in_room new.0 new.1 new.2 empty);
       empty = All-push (λ (part : Part). part.store ≡ no_cells part.keys part.store.column_room part.store.in_room) parts p before.empty empty;
     })

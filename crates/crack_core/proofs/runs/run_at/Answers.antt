@@ -10,7 +10,7 @@ returns-in-Ok-clause-runs c = λ splits limits good are.
 pub returns-in-Ok-clause-parts : goal.returns-in-Ok-clause-parts
 returns-in-Ok-clause-parts c = λ splits limits are.
     let opened = run-opened c.args.keys.now c.args.payloads.now (get_or c.args.partitions.now c.args.part c.index-partitions-part.result) c.in-Ok.count c.insert_run-inserted.new.self c.in-Ok.ensures.inserts in
-    AreParts-set splits limits c.args.partitions.now c.args.part c.insert_run-inserted.new.self c.index-partitions-part.result c.requires.there are opened.0 opened.1 c.facts.ensures
+    AreParts-set splits limits c.args.partitions.now c.args.part c.insert_run-inserted.new.self c.index-partitions-part.result c.requires.there are opened.0 opened.1 c.recall_invariant.ensures
 
 pub returns-in-Err-clause-refused : goal.returns-in-Err-clause-refused
 returns-in-Err-clause-refused c = λ splits limits are there.
@@ -19,4 +19,4 @@ returns-in-Err-clause-refused c = λ splits limits are there.
 pub returns-in-Err-clause-parts : goal.returns-in-Err-clause-parts
 returns-in-Err-clause-parts c = λ splits limits are.
     let opened = c.in-Err.ensures.refused.applies.opened in
-    AreParts-set splits limits c.args.partitions.now c.args.part c.insert_run-inserted.new.self c.index-partitions-part.result c.requires.there are opened.0 opened.1 c.facts.ensures
+    AreParts-set splits limits c.args.partitions.now c.args.part c.insert_run-inserted.new.self c.index-partitions-part.result c.requires.there are opened.0 opened.1 c.recall_invariant.ensures

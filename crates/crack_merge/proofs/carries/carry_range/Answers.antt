@@ -6,7 +6,7 @@ use Rattle.crack_merge.proofs.AtOnce.{SameButRoom-trans}
 use Rattle.crack_merge.proofs.Ending.{EndsAlike, EndsAlike-room}
 use Rattle.crack_merge.proofs.Ending.{Arrives, Arrives-ended, IsOnWay-next, left_in-less}
 use Rattle.crack_merge.proofs.carries.carry_range.Goals as goal
-use Rattle.crack_merge.proofs.carries.carry_range.Goals.{After-facts, After-make_room, After-make_room-in-insertions}
+use Rattle.crack_merge.proofs.carries.carry_range.Goals.{After-recall_invariant, After-make_room, After-make_room-in-insertions}
 
 pub returns-in_default-clause-ok : goal.returns-in_default-clause-ok
 returns-in_default-clause-ok c = c.in_default.ensures.carried
@@ -27,9 +27,9 @@ insertions-init c =
     })
 
 -- the carry of the row in hand has reached the rule that ends it
-arrives : (c : After-facts) → Arrives (ceiling_of c.args.ceiling) c.args.range c.args.store c.insertions.from c.carry-rule.result c.carry-rule.new.carrying
+arrives : (c : After-recall_invariant) → Arrives (ceiling_of c.args.ceiling) c.args.range c.args.store c.insertions.from c.carry-rule.result c.carry-rule.new.carrying
 arrives c =
-    Arrives-ended (ceiling_of c.args.ceiling) c.args.range c.requires c.args.store c.insertions.from c.insertions.carrying c.carry-rule.new.carrying c.carry-rule.result c.insertions.invariant c.carry-rule.ensures.carries c.facts.ensures c.carry-rule.ensures.evicts
+    Arrives-ended (ceiling_of c.args.ceiling) c.args.range c.requires c.args.store c.insertions.from c.insertions.carrying c.carry-rule.new.carrying c.carry-rule.result c.insertions.invariant c.carry-rule.ensures.carries c.recall_invariant.ensures c.carry-rule.ensures.evicts
 
 -- room was made for the next
 alike : (c : After-make_room-in-insertions) → EndsAlike c.carry-rule.result c.carry-rule.new.carrying c.make_room-in-insertions.new.self
@@ -39,16 +39,16 @@ alike c =
 
 pub returns-in_default-seek_in-clause-ok : goal.returns-in_default-seek_in-clause-ok
 returns-in_default-seek_in-clause-ok c =
-    rw (c.end.ensures, c.seek_in.ensures.same) (record { from = c.insertions.from; carries = (arrives (goal.at.returns-in_default-seek_in-clause-ok c).After-facts).carries_in; none = (arrives (goal.at.returns-in_default-seek_in-clause-ok c).After-facts).finds None c.in_default-seek_in.ensures.finds })
+    rw (c.end.ensures, c.seek_in.ensures.same) (record { from = c.insertions.from; carries = (arrives (goal.at.returns-in_default-seek_in-clause-ok c).After-recall_invariant).carries_in; none = (arrives (goal.at.returns-in_default-seek_in-clause-ok c).After-recall_invariant).finds None c.in_default-seek_in.ensures.finds })
 
 pub returns-in-Err-make_room-clause-stops : goal.returns-in-Err-make_room-clause-stops
 returns-in-Err-make_room-clause-stops c =
     rw c.end-in-Err-make_room.ensures (record {
       from = c.insertions.from;
       last = ended_carry c.carry-rule.result c.carry-rule.new.carrying;
-      carries = (arrives (goal.at.returns-in-Err-make_room-clause-stops c).After-facts).carries_in;
+      carries = (arrives (goal.at.returns-in-Err-make_room-clause-stops c).After-recall_invariant).carries_in;
       next = c.in-Some-seek_in.place;
-      left = (arrives (goal.at.returns-in-Err-make_room-clause-stops c).After-facts).finds (Some c.in-Some-seek_in.place) c.in-Some-seek_in.ensures.finds;
+      left = (arrives (goal.at.returns-in-Err-make_room-clause-stops c).After-recall_invariant).finds (Some c.in-Some-seek_in.place) c.in-Some-seek_in.ensures.finds;
       room = (alike (goal.at.returns-in-Err-make_room-clause-stops c).After-make_room-in-insertions).same;
     })
 
@@ -61,9 +61,9 @@ end_and_lift-requires-clause-ends c = (alike (goal.at.end_and_lift-requires-clau
 pub insertions-preserved : goal.insertions-preserved
 insertions-preserved c =
     let room = c.in_default-make_room-2.ensures in
-    rw c.end_and_lift.ensures (IsOnWay-next (ceiling_of c.args.ceiling) c.args.range c.args.store c.insertions.from c.in-Some-seek_in.place c.carry-rule.result c.carry-rule.new.carrying c.make_room-in-insertions.new.self (arrives (goal.at.insertions-preserved c).After-facts) (alike (goal.at.insertions-preserved c).After-make_room-in-insertions) c.in-Some-seek_in.ensures.finds room.column room.pending_in)
+    rw c.end_and_lift.ensures (IsOnWay-next (ceiling_of c.args.ceiling) c.args.range c.args.store c.insertions.from c.in-Some-seek_in.place c.carry-rule.result c.carry-rule.new.carrying c.make_room-in-insertions.new.self (arrives (goal.at.insertions-preserved c).After-recall_invariant) (alike (goal.at.insertions-preserved c).After-make_room-in-insertions) c.in-Some-seek_in.ensures.finds room.column room.pending_in)
 
 pub insertions-smaller : goal.insertions-smaller
 insertions-smaller c =
-    let less = left_in-less (ceiling_of c.args.ceiling) c.args.range c.args.store c.insertions.from c.in-Some-seek_in.place c.carry-rule.result c.carry-rule.new.carrying c.make_room-in-insertions.new.self (arrives (goal.at.insertions-smaller c).After-facts) (alike (goal.at.insertions-smaller c).After-make_room-in-insertions) c.in-Some-seek_in.ensures.finds in
+    let less = left_in-less (ceiling_of c.args.ceiling) c.args.range c.args.store c.insertions.from c.in-Some-seek_in.place c.carry-rule.result c.carry-rule.new.carrying c.make_room-in-insertions.new.self (arrives (goal.at.insertions-smaller c).After-recall_invariant) (alike (goal.at.insertions-smaller c).After-make_room-in-insertions) c.in-Some-seek_in.ensures.finds in
     rw c.end_and_lift.ensures (rw (c.carry-rule.ensures.cells, c.carry-rule.ensures.pending_in) at less)

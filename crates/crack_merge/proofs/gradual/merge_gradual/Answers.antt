@@ -22,7 +22,7 @@ merged c =
     let r = c.args.range in
     let carried = c.in-Ok.ensures.ok in
     let pulled = c.pull_range-merged.ensures in
-    let was = PutsInside-CarriesIn s r carried.from u c.facts.ensures carried.carries in
+    let was = PutsInside-CarriesIn s r carried.from u c.recall_invariant.ensures carried.carries in
     let now = TakesInside-PullsOut Gradual r c.default.result u pulled.from pulled.seen t was.intact pulled.pulls in
     let puts = was.puts.advances in
     let takes = now.advances in
@@ -40,7 +40,7 @@ stopped c =
     let t = c.in-Err.stopped.0 in
     let r = c.args.range in
     let some = c.in-Err.ensures.stops in
-    let was = PutsInside-CarriesIn s r some.from some.last c.facts.ensures some.carries in
+    let was = PutsInside-CarriesIn s r some.from some.last c.recall_invariant.ensures some.carries in
     let puts = PutsIn-trans Gradual s some.last t was.puts (PutsIn-room Gradual some.last t some.room) in
     let left : t.pending_in ≡ without_first s.cells r was.lacks.passed s.pending_in = ap (λ (x : State). x.pending_in) some.room.same ∙ was.lacks.left_are in
     (Stops-Advances Gradual s t r puts.advances (IsIntact-room some.last t [] some.room was.intact) (was.lacks.passed, was.lacks.within, left), puts.few)

@@ -12,10 +12,10 @@ bury_and_lift-requires-clause-there c =
 
 pub returns-in-Some : goal.returns-in-Some
 returns-in-Some c =
-    let keys = keys_in-buried c.args.carrying.now c.facts.ensures c.requires.doomed in
+    let keys = keys_in-buried c.args.carrying.now c.recall_invariant.ensures c.requires.doomed in
     rw (c.bury_and_lift.ensures.after, c.seek_in.ensures.same) (fills c.in-Some.place (rw keys c.in-Some.ensures.finds))
 
 pub returns-in-None : goal.returns-in-None
 returns-in-None c =
-    let keys = keys_in-buried c.args.carrying.now c.facts.ensures c.requires.doomed in
+    let keys = keys_in-buried c.args.carrying.now c.recall_invariant.ensures c.requires.doomed in
     rw (c.bury_and_lift_last.ensures.after, c.pending_in-behind.ensures, c.seek_in.ensures.same) (takes_last (rw keys c.in-None.ensures.finds))

@@ -41,10 +41,10 @@ stands_ahead c place doomed differ ahead =
     elim ahead [ inl is ↦ absurd (other is.0) | inr at ↦ (other, at.0, at.1) ]
 
 pub returns-in_default-clause-pulls : goal.returns-in_default-clause-pulls
-returns-in_default-clause-pulls c = rw c.find.ensures.same (reaches c.args.carrying.now (hand_absent c.args.carrying.now c.args.doomed c.facts.ensures c.requires.pending c.in_default.ensures.value))
+returns-in_default-clause-pulls c = rw c.find.ensures.same (reaches c.args.carrying.now (hand_absent c.args.carrying.now c.args.doomed c.recall_invariant.ensures c.requires.pending c.in_default.ensures.value))
 
 pub returns-in_default-clause-hand : goal.returns-in_default-clause-hand
-returns-in_default-clause-hand c = rw c.find.ensures.same (hand_absent c.args.carrying.now c.args.doomed c.facts.ensures c.requires.pending c.in_default.ensures.value)
+returns-in_default-clause-hand c = rw c.find.ensures.same (hand_absent c.args.carrying.now c.args.doomed c.recall_invariant.ensures c.requires.pending c.in_default.ensures.value)
 
 pub returns-in_default-clause-pending_out : goal.returns-in_default-clause-pending_out
 returns-in_default-clause-pending_out c = rw c.find.ensures.same refl
@@ -69,7 +69,7 @@ pulled_from doomed place c d e same drawn intact first ahead = pulled doomed pla
 
 -- the hand has reached the doomed row's piece
 way : (c : After-pull_down) → IsPulled c.args.doomed c.in-Some.place c.args.carrying.now c.pull_down.new.self
-way c = pulled_from c.args.doomed c.in-Some.place c.args.carrying.now c.find.new.self c.pull_down.new.self c.find.ensures.same c.pull_down.ensures.pulls c.facts.ensures c.in-Some.ensures.value c.requires.ahead
+way c = pulled_from c.args.doomed c.in-Some.place c.args.carrying.now c.find.new.self c.pull_down.new.self c.find.ensures.same c.pull_down.ensures.pulls c.recall_invariant.ensures c.in-Some.ensures.value c.requires.ahead
 
 pub returns-then-holds-clause-pulls : goal.returns-then-holds-clause-pulls
 returns-then-holds-clause-pulls c =

@@ -39,11 +39,11 @@ pull_rest-requires-clause-room c =
       | inl none ↦ absurd (omega (arith, none, first.after, first.within, length-map store.pending_in (key_at store.cells)))
       | inr some ↦ some
     ] in
-    rw (room-filled c.args.range c.args.fillers store c.fill_in_bulk.new.self c.facts.ensures behind (filled (goal.at.pull_rest-requires-clause-room c).Else-not-fill_in_bulk)) room
+    rw (room-filled c.args.range c.args.fillers store c.fill_in_bulk.new.self c.recall_invariant.ensures behind (filled (goal.at.pull_rest-requires-clause-room c).Else-not-fill_in_bulk)) room
 
 pub returns : goal.returns
 returns c =
     let store = c.args.store in
     let first = c.in-Some-next_in.ensures in
     let behind = c.requires.behind (omega (arith, first.holds.0, first.holds.1)) in
-    PullsAll-filled c.args.range c.args.fillers store c.fill_in_bulk.new.self c.facts.ensures behind (filled (goal.at.returns c).Else-not-fill_in_bulk) c.args.seen c.requires.within c.requires.none c.pull_rest.result c.pull_rest.ensures
+    PullsAll-filled c.args.range c.args.fillers store c.fill_in_bulk.new.self c.recall_invariant.ensures behind (filled (goal.at.returns c).Else-not-fill_in_bulk) c.args.seen c.requires.within c.requires.none c.pull_rest.result c.pull_rest.ensures

@@ -12,7 +12,7 @@ ripple_out-requires-clause-cracked c = IsCracked-follows c.args.store c.in-Ok.fi
 
 pub returns-in-Ok-ripple_out-clause-merges : goal.returns-in-Ok-ripple_out-clause-merges
 returns-in-Ok-ripple_out-clause-merges c =
-    Merges-near c.args.store c.in-Ok.filled c.in-Ok-ripple_out.merged c.args.range (record { some = c.requires.some; low = c.requires.low; high = c.requires.high; cracked = c.requires.cracked }) c.facts.ensures c.in-Ok.ensures.near c.in-Ok-ripple_out.ensures.near
+    Merges-near c.args.store c.in-Ok.filled c.in-Ok-ripple_out.merged c.args.range (record { some = c.requires.some; low = c.requires.low; high = c.requires.high; cracked = c.requires.cracked }) c.recall_invariant.ensures c.in-Ok.ensures.near c.in-Ok-ripple_out.ensures.near
 
 pub returns-in-Ok-ripple_out-clause-near : goal.returns-in-Ok-ripple_out-clause-near
 returns-in-Ok-ripple_out-clause-near c = record { filled = c.in-Ok.filled; puts_in = c.in-Ok.ensures.near; takes_out = c.in-Ok-ripple_out.ensures.near }

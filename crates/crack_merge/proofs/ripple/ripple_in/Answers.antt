@@ -11,12 +11,12 @@ use Rattle.crack_merge.proofs.ripple.ripple_in.Goals.{After-carry_range}
 put : (c : After-carry_range) → IfOk c.carry_range.result (λ t. PutIn c.args.store t c.args.range)
 put c =
     let of : IsRangeOf c.args.store c.args.range = record { some = c.requires.some; low = c.requires.low; high = c.requires.high; cracked = c.requires.cracked } in
-    IfOk-weaker c.carry_range.result _ _ (λ t all. PutIn-carried c.args.store t c.args.range of c.facts.ensures (rw c.high.ensures.value at all)) c.carry_range.ensures.ok
+    IfOk-weaker c.carry_range.result _ _ (λ t all. PutIn-carried c.args.store t c.args.range of c.recall_invariant.ensures (rw c.high.ensures.value at all)) c.carry_range.ensures.ok
 
 stopped : (c : After-carry_range) → IfErr c.carry_range.result (λ e. StopsIn c.args.store e.0 c.args.range)
 stopped c =
     let of : IsRangeOf c.args.store c.args.range = record { some = c.requires.some; low = c.requires.low; high = c.requires.high; cracked = c.requires.cracked } in
-    IfErr-weaker c.carry_range.result _ _ (λ e part. StopsIn-carried c.args.store e.0 c.args.range of c.facts.ensures (rw c.high.ensures.value at part)) c.carry_range.ensures.stops
+    IfErr-weaker c.carry_range.result _ _ (λ e part. StopsIn-carried c.args.store e.0 c.args.range of c.recall_invariant.ensures (rw c.high.ensures.value at part)) c.carry_range.ensures.stops
 
 pub returns-clause-near : goal.returns-clause-near
 returns-clause-near c = IfOk-weaker c.carry_range.result _ _ (λ t was. was.near) (put c)

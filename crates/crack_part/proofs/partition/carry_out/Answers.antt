@@ -29,7 +29,7 @@ returns-in_ok-rows-in-Select-clause-small c = λ plain numbered faithful few.
 
 pub returns-in-Insert-clause-knows : goal.returns-in-Insert-clause-knows
 returns-in-Insert-clause-knows c = λ plain numbered faithful knows.
-    rw c.in-Insert.is (KnowsThen-of c.args.known.now c.args.known.now plain (Insert c.in-Insert.key c.in-Insert.payload) c.place.result (on_ok c.place.result (Knows-placed c.args.known.now plain c.in-Insert.key c.in-Insert.payload knows)) (on_err c.place.result refl) knows)
+    rw c.in-Insert.is (KnowsThen-of c.args.known.now c.args.known.now plain (Insert c.in-Insert.key c.in-Insert.payload) c.insert.result (on_ok c.insert.result (Knows-placed c.args.known.now plain c.in-Insert.key c.in-Insert.payload knows)) (on_err c.insert.result refl) knows)
 
 pub returns-in-Delete-clause-knows : goal.returns-in-Delete-clause-knows
 returns-in-Delete-clause-knows c = λ plain numbered faithful knows.

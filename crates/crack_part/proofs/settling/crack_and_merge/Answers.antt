@@ -13,19 +13,19 @@ returns-in-Err-clause-stopped c = inl c.in-Err.ensures.same
 pub returns-then-pending_out-eq0-clause-settled : goal.returns-then-pending_out-eq0-clause-settled
 returns-then-pending_out-eq0-clause-settled c =
     CracksAndMerges-idle c.args.policy c.args.store.now c.crack.new.store c.args.range (omega (arith, c.requires.filled)) c.requires.low c.requires.high
-    c.in_default.ensures.cracked c.in_default.ensures.at_ends c.facts.ensures
+    c.in_default.ensures.cracked c.in_default.ensures.at_ends c.recall_invariant.ensures
     (nil_from_length _ (sym c.pending_in.ensures ∙ c.if-pending_in-eq0.true))
     (nil_from_length _ (sym c.pending_out.ensures ∙ c.if-pending_out-eq0.true))
 
 pub returns-clause-settled : goal.returns-clause-settled
 returns-clause-settled c = on_ok_weaker c.merge_cracked.result
-    (λ does. record { cracked = c.crack.new.store; cracks = c.in_default.ensures.cracked; intact = c.facts.ensures; does = does })
+    (λ does. record { cracked = c.crack.new.store; cracks = c.in_default.ensures.cracked; intact = c.recall_invariant.ensures; does = does })
     c.merge_cracked.ensures.merged
 
 pub returns-clause-stopped : goal.returns-clause-stopped
 returns-clause-stopped c = on_err_weaker c.merge_cracked.result
     (λ does. inr (
       c.requires.filled,
-      record { cracked = c.crack.new.store; cracks = c.in_default.ensures.cracked; intact = c.facts.ensures; does = does },
+      record { cracked = c.crack.new.store; cracks = c.in_default.ensures.cracked; intact = c.recall_invariant.ensures; does = does },
     ))
     c.merge_cracked.ensures.stopped

@@ -10,13 +10,13 @@ use Rattle.crack_store.proofs.admitting.add_rows.Goals.{After-row_at_index, Afte
 
 pub rows-init : goal.rows-init
 rows-init c = record {
-  run = IsRun-none c.args.first.0 c.args.keys.now c.args.payloads.now (lists_of c.args.inside.now) c.requires.admissible;
+  run = IsRun-none c.args.first.0 c.args.keys.now c.args.payloads.now (lists_of c.args.inside.now) c.requires.insertable;
   kept = c.requires.kept;
   room = HasRooms-same c.args.first.0 (c.args.first.0 + 0) (length c.args.keys.now) (length c.args.keys.now - 0) c.args.inside.now (omega arith) (omega arith) c.requires.room;
 }
 
-pub add_row-requires-clause-admissible : goal.add_row-requires-clause-admissible
-add_row-requires-clause-admissible c =
+pub add_row-requires-clause-insertable : goal.add_row-requires-clause-insertable
+add_row-requires-clause-insertable c =
     rw (c.row_at_index.ensures) (IsRun-may c.args.first.0 c.args.keys.now c.args.payloads.now (lists_of c.args.inside.now) c.rows.i (lists_of c.rows.inside) c.rows.invariant.run c.rows-test.true)
 
 -- there is room for the row and those after it

@@ -21,7 +21,7 @@ rows-preserved c =
       left = rw (freed, c.strike.ensures.handles, is) left.3;
       after = rw (freed, c.strike.ensures.handles, is, c.saturating_add-inside.ensures) after;
       keys = record {
-        same = ap (λ (x : Inside). record x { arena = c.free.new.self; pending_out = c.strike.new.self; tally = record p.tally { taken_out = c.saturating_add-inside.result } }) c.rows.invariant.keys.same;
+        same = ap (λ (x : Inside). record x { arena = c.free.new.self; pending_out = c.strike.new.self; tally = record p.tally { deletions = c.saturating_add-inside.result } }) c.rows.invariant.keys.same;
         keys = λ cells known. c.strike.ensures.remembered cells (c.rows.invariant.keys.keys cells known);
       };
     }

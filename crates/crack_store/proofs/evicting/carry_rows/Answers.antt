@@ -73,7 +73,7 @@ done c =
     walked c.args.range (lists_of p) y.low c.args.edge y.high c.requires.intact.intact y.before c.requires.none c.requires.high y.last y.low' v c.sift_below-column.result (ap (λ (x : Column). x.handles) c.take.ensures ∙ came.handles_are) refl refl refl (rw c.take.ensures came.read) (rw c.take.ensures came.remembers) (rw many at y.raises)
 
 -- and all of it
-all : (c : After-saturating_add-inside-3) → IsCarried c.args.range (lists_of c.args.inside.now) c.sift_below-column.ensures.sifts.low c.args.edge c.sift_below-column.ensures.sifts.high c.requires.intact.intact c.sift_below-column.ensures.sifts.before c.requires.none c.requires.high (lists_of (record c.args.inside.now { column = c.sift_below-column.result.column; index = c.sift_below-column.new.index; pending_in = c.shrink_if_empty.new.self; in_room = c.saturating_sub-inside.result; tally = record c.args.inside.now.tally { put_in = c.saturating_add-inside-3.result; evicted = c.saturating_add-inside-2.result; moved = c.saturating_add-inside.result } }))
+all : (c : After-saturating_add-inside-3) → IsCarried c.args.range (lists_of c.args.inside.now) c.sift_below-column.ensures.sifts.low c.args.edge c.sift_below-column.ensures.sifts.high c.requires.intact.intact c.sift_below-column.ensures.sifts.before c.requires.none c.requires.high (lists_of (record c.args.inside.now { column = c.sift_below-column.result.column; index = c.sift_below-column.new.index; pending_in = c.shrink_if_empty.new.self; in_room = c.saturating_sub-inside.result; tally = record c.args.inside.now.tally { insertions = c.saturating_add-inside-3.result; evicted = c.saturating_add-inside-2.result; moved = c.saturating_add-inside.result } }))
 all c =
     let p = c.args.inside.now in
     let s = lists_of p in
@@ -91,7 +91,7 @@ all c =
     let moved : c.saturating_add-inside.result ≡ min (s.tally.moved + (made + length out)) greatest =
     c.saturating_add-inside.ensures ∙ ap (λ n. min (n + c.min-evicted.result) greatest) sifted.moved_is ∙ ap (λ n. min (min (s.tally.moved + made) greatest + n) greatest) evicted ∙ min_and s.tally.moved made (length out) in
     let evicts : c.saturating_add-inside-2.result ≡ min (s.tally.evicted + length out) greatest = c.saturating_add-inside-2.ensures ∙ ap (λ n. min (s.tally.evicted + n) greatest) evicted in
-    let puts : c.saturating_add-inside-3.result ≡ min (s.tally.put_in + length rows) greatest = c.saturating_add-inside-3.ensures ∙ ap (λ n. min (s.tally.put_in + n) greatest) many in
+    let puts : c.saturating_add-inside-3.result ≡ min (s.tally.insertions + length rows) greatest = c.saturating_add-inside-3.ensures ∙ ap (λ n. min (s.tally.insertions + n) greatest) many in
     let after : SameButRoom (carried_under c.args.range s y.low edge y.high) _ = record { same = rw (sifted.column_is, marks, left, moved, evicts, puts) refl } in
     carried c.args.range s y.low edge y.high c.requires.intact.intact y.before c.requires.none c.requires.high _ c.args.first c.requires.first after
 

@@ -69,7 +69,7 @@ returns-clause-filled c =
     let pending_is : c.shrink_if_empty.new.self.handles ≡ lacking s.cells c.args.fillers n s.pending_in = ap (λ (x : Pending). x.handles) c.shrink_if_empty.ensures.same ∙ st.pending_are in
     let room_is : c.put_fillers.new.column.room ≡ s.column_room = st.column_room ∙ d.room_is in
     let pulled_is : c.saturating_add-inside.result ≡ min (s.tally.pulled + (drew + length fs)) greatest = c.saturating_add-inside.ensures ∙ rw (d.pulled_is, count, fs_long) (min_and s.tally.pulled drew n) in
-    let came : c.saturating_add-inside-2.result ≡ min (s.tally.put_in + length fs) greatest = c.saturating_add-inside-2.ensures ∙ rw (count, fs_long) refl in
+    let came : c.saturating_add-inside-2.result ≡ min (s.tally.insertions + length fs) greatest = c.saturating_add-inside-2.ensures ∙ rw (count, fs_long) refl in
     record {
       low = can.low;
       high = can.high;
@@ -83,7 +83,7 @@ returns-clause-intact c =
     let st = stocked (goal.at.returns-clause-intact c).After-put_fillers in
     let p = c.args.inside.now in
     let q : Inside = c.bury_all.new.inside in
-    let mid : Inside = record p { column = c.put_fillers.new.column; index = c.place_each.new.self; pending_in = c.shrink_if_empty.new.self; tally = record p.tally { pulled = c.saturating_add-inside.result; put_in = c.saturating_add-inside-2.result } } in
+    let mid : Inside = record p { column = c.put_fillers.new.column; index = c.place_each.new.self; pending_in = c.shrink_if_empty.new.self; tally = record p.tally { pulled = c.saturating_add-inside.result; insertions = c.saturating_add-inside-2.result } } in
     let hs = map doomed_handle c.deref.result.now in
     let t : State = lists_of mid in
     let keys = c.bury_all.ensures.keys in

@@ -27,7 +27,7 @@ done c =
     whole c.args.range (lists_of p) c.requires.intact.intact (c.len-to.result - c.len-from.result) c.raise_each.result c.raise_each.new.self.marks _ c.raise_each.new.visitor (came c) (ap (λ (x : Column). x.handles) c.take.ensures ∙ c.take_rows.ensures.handles) c.len-from.ensures.value to refl (rw (begin, end, moved_on) at c.take_rows.ensures.read) (rw moved_on at c.take_rows.ensures.remembered) c.raise_each.ensures.raises
 
 -- and all of it
-all : (c : After-saturating_add-inside) → IsCarried c.args.range (lists_of c.args.inside.now) c.requires.intact.intact (lists_of (record c.args.inside.now { column = c.raise_each.new.visitor.column; index = c.raise_each.new.self; pending_in = c.shrink_if_empty.new.self; tally = record c.args.inside.now.tally { put_in = c.saturating_add-inside.result; moved = c.raise_each.new.visitor.moved } }))
+all : (c : After-saturating_add-inside) → IsCarried c.args.range (lists_of c.args.inside.now) c.requires.intact.intact (lists_of (record c.args.inside.now { column = c.raise_each.new.visitor.column; index = c.raise_each.new.self; pending_in = c.shrink_if_empty.new.self; tally = record c.args.inside.now.tally { insertions = c.saturating_add-inside.result; moved = c.raise_each.new.visitor.moved } }))
 all c =
     let s = lists_of c.args.inside.now in
     let sifted = done c in

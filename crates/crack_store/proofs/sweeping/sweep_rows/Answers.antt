@@ -97,7 +97,7 @@ returns-clause-intact c =
     let d = done (goal.at.returns-clause-intact c).After-sweep_last in
     let q : Inside = c.bury_all.new.inside in
     let whole : IsIntact (lists_of q) [] = (IsKept-in_bulk None c.args.range s (lists_of q) c.args.first (λ key inside. refl) c.requires.intact.intact c.requires.first (returns-clause-carried c)).intact in
-    let mid : Inside = record p { column = c.take_doomed.new.column; index = c.place_each.new.self; pending_in = c.shrink_if_empty.new.self; tally = record p.tally { put_in = c.saturating_add-inside.result; moved = c.sweep_last.new.sweep.moved } } in
+    let mid : Inside = record p { column = c.take_doomed.new.column; index = c.place_each.new.self; pending_in = c.shrink_if_empty.new.self; tally = record p.tally { insertions = c.saturating_add-inside.result; moved = c.sweep_last.new.sweep.moved } } in
     let hs = map doomed_handle c.deref.result.now in
     let t : State = lists_of mid in
     let keys = c.bury_all.ensures.keys in

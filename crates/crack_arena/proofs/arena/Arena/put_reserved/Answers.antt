@@ -2,7 +2,7 @@ use Rattle.std.proofs.Common.{◌≡◌, ◌<◌, ◌+◌, ◌%◌, sym, ap, ◌
 use Rattle.crack_arena.specs.Arena.{Cell, Arena, KeepsSpent}
 use Rattle.crack_arena.specs.declared.cells.Cell.{Cell as Stored}
 use Rattle.crack_arena.specs.Links.{words_of, next_after}
-use Rattle.crack_arena.proofs.Laws.{KeepsSpent-put_in}
+use Rattle.crack_arena.proofs.Laws.{KeepsSpent-value_put}
 use Rattle.crack_arena.proofs.ArenaLemmas.{IsLinked-fill, head_within, word_read, words-set, handle_for_head, vacant_head, put_filled}
 use Rattle.crack_arena.proofs.arena.Arena.put_reserved.Goals as goal
 
@@ -107,4 +107,4 @@ returns-clause-after g c =
 pub returns-clause-keeps_spent : goal.returns-clause-keeps_spent
 returns-clause-keeps_spent g c =
     let after = returns-clause-after g c in
-    subst (λ (cells : List (Cell g.row.T.Denot)). KeepsSpent c.args.self.now.cells cells) (sym (ap (λ (a : Arena g.row.T.Denot). a.cells) after)) (KeepsSpent-put_in c.args.value c.args.self.now)
+    subst (λ (cells : List (Cell g.row.T.Denot)). KeepsSpent c.args.self.now.cells cells) (sym (ap (λ (a : Arena g.row.T.Denot). a.cells) after)) (KeepsSpent-value_put c.args.value c.args.self.now)

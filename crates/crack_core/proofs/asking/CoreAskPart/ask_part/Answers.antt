@@ -10,7 +10,7 @@ returns-clause-asks c =
     let core = c.args.self.now in
     let step = step_at c.args.policy c.args.part c.args.command in
     let did = c.step-answered.ensures in
-    let are = c.facts.ensures.parts in (
+    let are = c.recall_invariant.ensures.parts in (
       record {
         comes_out = did.outcome;
         leaves = did.after;

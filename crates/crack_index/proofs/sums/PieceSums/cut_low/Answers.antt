@@ -10,8 +10,8 @@ returns-in_default-clause-more g c =
     let es = c.args.self.now in
     let none : sum_piece_at c.args.first es ≡ None = sym c.piece_at.ensures.value ∙ c.in_default.is in
     by_bool c.put.result _
-    (λ done. rw (c.put.ensures.ok done) (Extends-begin (g.S.Source.says c.args.source.now) c.args.first es c.piece_at.ensures.rises (omega (arith, c.ranges.first.fits)) none))
-    (λ short. rw (c.put.ensures.err short) (Extends-same (g.S.Source.says c.args.source.now) es))
+    (λ done. rw (c.put.ensures.ok done) (Extends-begin (g.S.SumSource.says c.args.source.now) c.args.first es c.piece_at.ensures.rises (omega (arith, c.ranges.first.fits)) none))
+    (λ short. rw (c.put.ensures.err short) (Extends-same (g.S.SumSource.says c.args.source.now) es))
 
 pub returns-in_default-clause-cut : goal.returns-in_default-clause-cut
 returns-in_default-clause-cut g c = λ done. rw (c.put.ensures.ok done) (IsEnd-new c.args.first UNKNOWN c.args.self.now)
@@ -30,8 +30,8 @@ returns-then-sum-clause-more g c =
     let es = c.args.self.now in
     let found = sym c.piece_at.ensures.value ∙ c.in-Some.is in
     by_bool c.split.result _
-    (λ done. rw (c.split.ensures.ok done) (Extends-blind (g.S.Source.says c.args.source.now) c.args.first (c.in-Some.start, c.in-Some.sum) es c.piece_at.ensures.rises (omega (arith, c.ranges.first.fits)) found c.if-start-first.false))
-    (λ short. rw (c.split.ensures.err short) (Extends-same (g.S.Source.says c.args.source.now) es))
+    (λ done. rw (c.split.ensures.ok done) (Extends-blind (g.S.SumSource.says c.args.source.now) c.args.first (c.in-Some.start, c.in-Some.sum) es c.piece_at.ensures.rises (omega (arith, c.ranges.first.fits)) found c.if-start-first.false))
+    (λ short. rw (c.split.ensures.err short) (Extends-same (g.S.SumSource.says c.args.source.now) es))
 
 pub returns-then-sum-clause-cut : goal.returns-then-sum-clause-cut
 returns-then-sum-clause-cut g c = λ done.
@@ -88,8 +88,8 @@ returns-then-past-next-clause-more g c =
     let es = c.args.self.now in
     let found = sym c.piece_at.ensures.value ∙ c.in-Some.is in
     by_bool c.split-then-past-next.result _
-    (λ done. rw (c.split-then-past-next.ensures.ok done) (Extends-blind (g.S.Source.says c.args.source.now) c.args.first (c.in-Some.start, c.in-Some.sum) es c.piece_at.ensures.rises (omega (arith, c.ranges.first.fits)) found c.if-start-first.false))
-    (λ short. rw (c.split-then-past-next.ensures.err short) (Extends-same (g.S.Source.says c.args.source.now) es))
+    (λ done. rw (c.split-then-past-next.ensures.ok done) (Extends-blind (g.S.SumSource.says c.args.source.now) c.args.first (c.in-Some.start, c.in-Some.sum) es c.piece_at.ensures.rises (omega (arith, c.ranges.first.fits)) found c.if-start-first.false))
+    (λ short. rw (c.split-then-past-next.ensures.err short) (Extends-same (g.S.SumSource.says c.args.source.now) es))
 
 pub returns-then-past-next-clause-cut : goal.returns-then-past-next-clause-cut
 returns-then-past-next-clause-cut g c = λ done.

@@ -11,7 +11,7 @@ use Rattle.crack_index.proofs.sums.PieceSums.split_above.Goals as goal
 pub returns-clause-more : goal.returns-clause-more
 returns-clause-more g c =
     let es = c.args.self.now in
-    let says = g.S.Source.says c.args.source.now in
+    let says = g.S.SumSource.says c.args.source.now in
     let rises = c.split.ensures.rises in
     let few : c.args.at < GREATEST_BOUND = omega (arith, c.ranges.at.fits) in
     let piece = piece-is c.args.at es (c.args.start, c.args.sum) rises few c.requires.found in

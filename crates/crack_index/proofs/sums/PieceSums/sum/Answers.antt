@@ -7,12 +7,12 @@ use Rattle.crack_index.proofs.Totals.{whole-right, some-right, on_some}
 use Rattle.crack_index.proofs.sums.PieceSums.sum.Goals as goal
 use Rattle.crack_index.proofs.sums.PieceSums.sum.Goals.{After-cut_low, After-walk, After-learned, then-not-cut_low-via-then-not-cut_low, then-not-cut_low-via-else-not-cut_low+then-not-cut_high}
 
-lower : (g : _) (c : After-cut_low g) → Extends (g.S.Source.says c.args.source.now) c.args.self.now c.cut_low.new.self
+lower : (g : _) (c : After-cut_low g) → Extends (g.S.SumSource.says c.args.source.now) c.args.self.now c.cut_low.new.self
 lower g c = c.cut_low.ensures.more
 
-both : (g : _) (c : After-walk g) → Extends (g.S.Source.says c.args.source.now) c.args.self.now c.cut_high.new.self
+both : (g : _) (c : After-walk g) → Extends (g.S.SumSource.says c.args.source.now) c.args.self.now c.cut_high.new.self
 both g c =
-    Extends-chain (g.S.Source.says c.args.source.now) c.args.self.now c.cut_low.new.self c.cut_high.new.self c.cut_low.ensures.more c.cut_high.ensures.more
+    Extends-chain (g.S.SumSource.says c.args.source.now) c.args.self.now c.cut_low.new.self c.cut_high.new.self c.cut_low.ensures.more c.cut_high.ensures.more
 
 ends : (g : _) (c : After-walk g) → IsEnd c.number-first.result c.cut_high.new.self × IsEnd (c.number-last.result + 1) c.cut_high.new.self
 ends g c = (c.cut_high.ensures.more.ends c.number-first.result (c.if-not-cut_low.ensures.cut refl), c.if-not-cut_high.ensures.cut refl)
@@ -23,7 +23,7 @@ range_ends g c =
     let high : c.number-last.result + 1 ≡ c.args.range.high = rw c.number-last.ensures c.in-Some.ensures.value.1 in
     rw (low, high) at (ends g c)
 
-learned_more : (g : _) (c : After-learned g) → Extends (g.S.Source.says c.args.source.now) c.cut_high.new.self c.learned.new.self
+learned_more : (g : _) (c : After-learned g) → Extends (g.S.SumSource.says c.args.source.now) c.cut_high.new.self c.learned.new.self
 learned_more g c = c.learned.ensures.more
 
 pub returns-then-not-cut_low-clause-more : goal.returns-then-not-cut_low-clause-more
@@ -32,7 +32,7 @@ returns-then-not-cut_low-clause-more g c =
     elim c.then-not-cut_low.branch [
       | then-not-cut_low-via-then-not-cut_low w ↦ rw w.self-is (lower g at.After-cut_low)
       | then-not-cut_low-via-else-not-cut_low+then-not-cut_high w ↦
-          rw w.self-is (Extends-chain (g.S.Source.says c.args.source.now) c.args.self.now c.cut_low.new.self w.cut_high.new.self (lower g at.After-cut_low) w.cut_high.ensures.more)
+          rw w.self-is (Extends-chain (g.S.SumSource.says c.args.source.now) c.args.self.now c.cut_low.new.self w.cut_high.new.self (lower g at.After-cut_low) w.cut_high.ensures.more)
     ]
 
 pub returns-in-Whole-clause-right : goal.returns-in-Whole-clause-right
@@ -69,7 +69,7 @@ returns-in-Unknown-clause-ends g c =
 pub returns-in-Unknown-clause-more : goal.returns-in-Unknown-clause-more
 returns-in-Unknown-clause-more g c =
     let at = goal.at.returns-in-Unknown-clause-more g c in
-    Extends-chain (g.S.Source.says c.args.source.now) c.args.self.now c.cut_high.new.self c.learned.new.self (both g at.After-walk) (learned_more g at.After-learned)
+    Extends-chain (g.S.SumSource.says c.args.source.now) c.args.self.now c.cut_high.new.self c.learned.new.self (both g at.After-walk) (learned_more g at.After-learned)
 
 pub returns-in-TooFar-clause-more : goal.returns-in-TooFar-clause-more
 returns-in-TooFar-clause-more g c = both g (goal.at.returns-in-TooFar-clause-more g c).After-walk

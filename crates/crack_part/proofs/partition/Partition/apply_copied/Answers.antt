@@ -21,8 +21,8 @@ pub invariant_of-self : goal.invariant_of-self
 invariant_of-self c =
     let at = c.self.inside in
     let to = c.self-2.inside in
-    let p : Part = record { keys = at.keys; limits = at.limits; next = at.next; folded = at.folded; since = at.since; store = at.store } in
-    let q : Part = record { keys = to.keys; limits = to.limits; next = to.next; folded = to.folded; since = to.since; store = to.store } in
+    let p : Part = record { keys = at.keys; limits = at.limits; next = at.next; checkpointed = at.checkpointed; since = at.since; store = at.store } in
+    let q : Part = record { keys = to.keys; limits = to.limits; next = to.next; checkpointed = to.checkpointed; since = to.since; store = to.store } in
     let said = c.in_ok-reply.ensures in
     let none : change_of c.args.command ≡ None = change-listed (state_of c.args.self.now) c.args.command (λ flat. false≢true (c.in-Err.ensures.flat (subst IsFlat (sym said.reply) flat))) in
     KnowsPart-recounted to.known c.args.policy p q c.args.self.now c.apply.new.self c.args.command c.self.view_is c.self-2.view_is none c.self.invariant.sound c.self-2.invariant said.opened said.store said.state

@@ -20,4 +20,4 @@ walks-preserved c =
     rw c.push_on.ensures.after (pushes_then ceiling c.args.self.now at (pushed_on at) (pushes_then ceiling c.args.self.now c.walks.self at c.walks.invariant c.ascend.ensures) (PushesOn.pushes at (pushed_on at) goes_on.lasting goes_on.below goes_on.room (PushesOn.stays (pushed_on at))))
 
 pub walks-smaller : goal.walks-smaller
-walks-smaller c = omega (arith, c.push_on.ensures.nearer, bounds_above-pushes (ceiling_of c.args.ceiling) c.walks.self c.ascend.new.self c.ascend.ensures c.facts.ensures)
+walks-smaller c = omega (arith, c.push_on.ensures.nearer, bounds_above-pushes (ceiling_of c.args.ceiling) c.walks.self c.ascend.new.self c.ascend.ensures c.recall_invariant.ensures)

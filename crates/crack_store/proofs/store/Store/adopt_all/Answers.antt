@@ -22,7 +22,7 @@ invariant_of-self c =
     let p = c.self.inside.inside in
     let s = lists_of p in
     let handed = c.hand_over-rows.ensures in
-    let new = record p { column = c.adopt.new.self; pending_in = c.shrink_if_empty.new.self; in_room = 0; tally = record p.tally { put_in = c.saturating_add-self-inside.result } } in
+    let new = record p { column = c.adopt.new.self; pending_in = c.shrink_if_empty.new.self; in_room = 0; tally = record p.tally { insertions = c.saturating_add-self-inside.result } } in
     let uncracked : s.marks ≡ [] = rw (← c.self.view_is) at c.requires.uncracked in
     let none : s.column ≡ [] = rw (← c.self.view_is) at c.requires.empty in
     let column : c.adopt.new.self.handles ≡ s.column ++ s.pending_in = c.adopt.ensures.handles ∙ handed.handles ∙ ap (λ (xs : List Handle). xs ++ s.pending_in) (sym none) in

@@ -16,7 +16,7 @@ pub invariant_of-self-2 : goal.invariant_of-self-2
 invariant_of-self-2 c =
     let p = c.self.inside.inside in
     let s = lists_of p in
-    let new = record p { column = c.append_rows.new.column; pending_in = c.shrink_if_empty.new.self; tally = record p.tally { put_in = c.saturating_add-self-inside.result } } in
+    let new = record p { column = c.append_rows.new.column; pending_in = c.shrink_if_empty.new.self; tally = record p.tally { insertions = c.saturating_add-self-inside.result } } in
     let uncracked : s.marks ≡ [] = rw (← c.self.view_is) at c.requires in
     let closed : c.close_up.new.self.handles ≡ s.pending_in = ap (λ (x : Pending). x.handles) c.close_up.ensures.same in
     let column : c.append_rows.new.column.handles ≡ s.column ++ s.pending_in = rw (c.in_ok-reserve.ensures.same, closed) at c.append_rows.ensures.handles in

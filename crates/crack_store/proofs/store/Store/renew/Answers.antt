@@ -10,8 +10,8 @@ use Rattle.crack_state.proofs.LayoutLaws.{cells-intact, pending_out-few}
 use Rattle.crack_state.proofs.StepLaws.{IsIntact-room}
 use Rattle.crack_state.proofs.PointLaws.{stands1, reads_by, IsIntact-renewed, live_rows-renewed}
 use Rattle.crack_store.specs.Inside.{lists_of}
-use Rattle.crack_store.proofs.AdmitLemmas.{is_covered, all_covered, with_new_cell}
-use Rattle.crack_store.proofs.RememberLemmas.{Remembers-admitted, Remembers-off, Added, added, memory_of, memory-read, memory_at-off}
+use Rattle.crack_store.proofs.InsertLemmas.{is_covered, all_covered, with_new_cell}
+use Rattle.crack_store.proofs.RememberLemmas.{Remembers-row_inserted, Remembers-off, Added, added, memory_of, memory-read, memory_at-off}
 use Rattle.crack_store.proofs.PointLemmas.{column_handle}
 use Rattle.crack_store.proofs.store.Store.renew.Goals as goal
 
@@ -122,7 +122,7 @@ invariant_of-self-2 c =
     let known : memory_of c.row_at-before.result ≡ memory_at cells h = memory-read s.cells h c.row_at-before.result reads ∙ sym (memory_at-off n.slot s.cells cells h plus.agree apart) in
     record {
       intact = IsIntact-room (record (renewed row h s) { serials = entries }) (lists_of new) [] (after c) (IsIntact-renewed s h row entries found (column_handle s row.serial.0 h column found) maps inside may c.self.invariant.intact);
-      remembers = rw (cells_after c) (Remembers-admitted row s c.self.inside.inside.column.remembered c.self.invariant.intact c.self.invariant.remembers);
+      remembers = rw (cells_after c) (Remembers-row_inserted row s c.self.inside.inside.column.remembered c.self.invariant.intact c.self.invariant.remembers);
       keys_in = rw (cells_after c) (c.push_remembered-2.ensures.remembered cells (inr (c.of-2.ensures ∙ plus.memory)) (c.in_ok-make_places-3.ensures.remembered cells (c.in_ok-reserve-2.ensures.remembered cells (Remembers-off n.slot s.cells cells kept_in.handles kept_in.remembered plus.agree plus.off_in c.self.invariant.keys_in))));
       keys_out = rw (cells_after c) (c.push_remembered.ensures.remembered cells (inr (c.of.ensures ∙ known)) (c.in_ok-make_places.ensures.remembered cells (c.in_ok-reserve.ensures.remembered cells (Remembers-off n.slot s.cells cells kept_out.handles kept_out.remembered plus.agree plus.off_out c.self.invariant.keys_out))));
       room = omega arith;

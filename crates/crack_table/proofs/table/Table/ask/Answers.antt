@@ -19,7 +19,7 @@ returns-in_err-reply g c =
       given = tt;
       mine = tt;
       receipts = tt;
-      fronts = tt;
+      seen_by_part = tt;
       legal = tt;
       small = tt;
       at = record { there = tt; nowhere = λ past. absurd (omega (arith, there, past)); causes = λ _. rw limited at causes };

@@ -29,8 +29,8 @@ given g c = search rules
 
 pub write-requires : goal.write-requires
 write-requires g c =
-    let owner = g.J.Naming.owner c.self.inside.scribe.part in
-    let h = history_of owner c.self.inside.scribe.log in
+    let owner = g.J.Naming.owner c.self.inside.history_writer.part in
+    let h = history_of owner c.self.inside.history_writer.log in
     let e : Entry = record { worker = c.args.worker; command = c.args.command; reply = c.in_ok-reply.reply } in
     let is : c.in_ok-reply.reply ≡ reply_to (replay_from no_rows h) c.args.command = c.in_ok-reply.ensures.reply ∙ ap (λ (s : PlainState). reply_to s c.args.command) c.self.invariant.0.rows in
     AreReplies-push no_rows h e (c.part-part.ensures.legal owner) is
@@ -38,18 +38,18 @@ write-requires g c =
 -- the worker's count, and a bound on it
 pub overflow_add-count : goal.overflow_add-count
 overflow_add-count g c =
-    let h = history_of (g.J.Naming.owner c.self.inside.scribe.part) c.self.inside.scribe.log in
+    let h = history_of (g.J.Naming.owner c.self.inside.history_writer.part) c.self.inside.history_writer.log in
     let at = c.is_at.ensures.0 c.if-not-is_at.false in
     let items = c.as_slice.ensures.value in
     let less : c.args.worker < length c.self.inside.answered.items = subst (λ (l : List ℕ). c.args.worker < length l) items at.0 in
     let is : slice_index_or c.self.inside.answered.items c.args.worker 0 ≡ c.args.count = subst (λ (l : List ℕ). slice_index_or l c.args.worker 0 ≡ c.args.count) items at.1 in
     let counted : slice_index_or c.self.inside.answered.items c.args.worker 0 ≡ length (calls_by c.args.worker h) = c.self.invariant.1 c.args.worker less in
-    omega (arith, is, counted, calls-le-accepted c.args.worker h (table_of c.self.inside.partition) c.self.invariant.0, c.facts.ensures.lived, c.facts.ensures.limited.life.1)
+    omega (arith, is, counted, calls-le-accepted c.args.worker h (table_of c.self.inside.partition) c.self.invariant.0, c.recall_invariant.ensures.lived, c.recall_invariant.ensures.limited.life.1)
 
 pub invariant_of-self-2 : goal.invariant_of-self-2
 invariant_of-self-2 g c =
     let own : ℕ → ℕ = g.J.Naming.owner in
-    let h = history_of (own c.self.inside.scribe.part) c.self.inside.scribe.log in
+    let h = history_of (own c.self.inside.history_writer.part) c.self.inside.history_writer.log in
     let e : Entry = record { worker = c.args.worker; command = c.args.command; reply = c.in_ok-reply.reply } in
     let at = c.is_at.ensures.0 c.if-not-is_at.false in
     let items = c.as_slice.ensures.value in
@@ -69,13 +69,13 @@ invariant_of-self-2 g c =
 
 pub returns-clause-few : goal.returns-clause-few
 returns-clause-few g c =
-    let h = history_of (g.J.Naming.owner c.self.inside.scribe.part) c.self.inside.scribe.log in
+    let h = history_of (g.J.Naming.owner c.self.inside.history_writer.part) c.self.inside.history_writer.log in
     let at = c.is_at.ensures.0 c.if-not-is_at.false in
     let items = c.as_slice.ensures.value in
     let less : c.args.worker < length c.self.inside.answered.items = subst (λ (l : List ℕ). c.args.worker < length l) items at.0 in
     let is : slice_index_or c.self.inside.answered.items c.args.worker 0 ≡ c.args.count = subst (λ (l : List ℕ). slice_index_or l c.args.worker 0 ≡ c.args.count) items at.1 in
     let counted : slice_index_or c.self.inside.answered.items c.args.worker 0 ≡ length (calls_by c.args.worker h) = c.self.invariant.1 c.args.worker less in
-    omega (arith, is, counted, calls-le-accepted c.args.worker h (table_of c.self.inside.partition) c.self.invariant.0, c.facts.ensures.lived, c.facts.ensures.limited.life.1)
+    omega (arith, is, counted, calls-le-accepted c.args.worker h (table_of c.self.inside.partition) c.self.invariant.0, c.recall_invariant.ensures.lived, c.recall_invariant.ensures.limited.life.1)
 
 pub returns-clause-refused : goal.returns-clause-refused
 returns-clause-refused g c = λ in_step.
@@ -89,7 +89,7 @@ returns-in_err-reply-clause-refused g c = λ in_step.
     let given : c.from_residual.result ≡ Err e0 = given g c in
     let p = c.self.inside.partition in
     let lists = c.in_err-reply.ensures.unlisted.0 in
-    let with : Part → Option (List Entry) → WitnessedState = λ held list. record { part = c.self.inside.scribe.part; log = c.self.inside.scribe.log; held = held; workers = length c.self.inside.answered.items; entries = list } in
+    let with : Part → Option (List Entry) → WitnessedState = λ held list. record { part = c.self.inside.history_writer.part; log = c.self.inside.history_writer.log; held = held; workers = length c.self.inside.answered.items; entries = list } in
     rw (← c.self.view_is) (if_refused (refusal_of p c.args.command) (λ e. (Err e0 ≡ Err e) × (c.apply_listed.new.partition ≡ p)) (λ e. (c.from_residual.result ≡ Err e) × (with c.apply_listed.new.partition (listed c.apply_listed.new.entries) ≡ with p (listed c.self.inside.entries)))
     (λ e is. (given ∙ ap Err (cc is.0), λ i. with (is.1 i) (lists i))) c.in_err-reply.ensures.refused)
 
@@ -194,7 +194,7 @@ returns-then-not-is_at-clause-spared g c = Spares-unchanged c.args.policy c.args
 pub returns-clause-divides : goal.returns-clause-divides
 returns-clause-divides g c =
     let own : ℕ → ℕ = g.J.Naming.owner in
-    let h = history_of (own c.self.inside.scribe.part) c.self.inside.scribe.log in
+    let h = history_of (own c.self.inside.history_writer.part) c.self.inside.history_writer.log in
     let p = c.self.inside.partition in
     let now = c.apply_listed.new.partition in
     let e : Entry = record { worker = c.args.worker; command = c.args.command; reply = c.in_ok-reply.reply } in

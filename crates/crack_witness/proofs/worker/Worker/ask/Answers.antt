@@ -29,8 +29,8 @@ returns-clause-given g c =
     let e : Entry = record { worker = c.self.inside.number; command = c.args.command; reply = c.in_ok-reply.reply } in
     let kept : history_of (own c.args.witnessed.now.part) c.ask.new.me ≡ history_of (own c.args.witnessed.now.part) log ++ e ∷ [] = ap (history_of (own c.args.witnessed.now.part)) told.seen.0 ∙ told.written in
     let here : history_of (own c.args.part) c.ask.new.me ≡ history_of (own c.args.part) log ++ e ∷ [] = subst (λ (p : ℕ). history_of (own p) c.ask.new.me ≡ history_of (own p) log ++ e ∷ []) same kept in
-    let old : IsPrefix (history_of (own c.args.part) c.self.inside.front) (history_of (own c.args.part) log) = subst (λ (p : ℕ). IsPrefix (history_of (own p) c.self.inside.front) (history_of (own p) log)) same told.before in
-    let given : IsGiven own c.args.part e c.self.inside.front c.ask.new.me = record { before = history_of (own c.args.part) log; ends = here; begins = old } in
+    let old : IsPrefix (history_of (own c.args.part) c.self.inside.seen_events) (history_of (own c.args.part) log) = subst (λ (p : ℕ). IsPrefix (history_of (own p) c.self.inside.seen_events) (history_of (own p) log)) same told.before in
+    let given : IsGiven own c.args.part e c.self.inside.seen_events c.ask.new.me = record { before = history_of (own c.args.part) log; ends = here; begins = old } in
     subst (λ (a : WorkerState). IsGiven own c.args.part (record { worker = a.worker; command = c.args.command; reply = c.in_ok-reply.reply }) a.seen c.ask.new.me) c.self.view_is given
 
 pub returns-clause-mine : goal.returns-clause-mine
@@ -38,38 +38,38 @@ returns-clause-mine g c =
     let own : ℕ → ℕ = g.J.Naming.owner in
     let n = c.self.inside.number in
     let log = c.args.witnessed.now.log in
-    let f = slice_index_or c.self.inside.fronts.items c.args.part [] in
+    let f = slice_index_or c.self.inside.seen_by_part.items c.args.part [] in
     let e : Entry = record { worker = n; command = c.args.command; reply = c.in_ok-reply.reply } in
     let same : c.args.witnessed.now.part ≡ c.args.part = sym c.part.ensures ∙ c.if-part.false in
     let told = c.in_ok-reply.ensures in
-    let less : c.args.part < length c.self.inside.fronts.items = search rules in
+    let less : c.args.part < length c.self.inside.seen_by_part.items = search rules in
     let counted : c.in-Some.count ≡ length (calls_at own c.args.part n f) = search (rules, c.self.invariant.counted c.args.part less) in
     let kept : history_of (own c.args.witnessed.now.part) c.ask.new.me ≡ history_of (own c.args.witnessed.now.part) log ++ e ∷ [] = ap (history_of (own c.args.witnessed.now.part)) told.seen.0 ∙ told.written in
-    let exact = given_exact own n c.args.part c.args.witnessed.now.part f c.self.inside.front log c.ask.new.me e c.in-Some.count same (c.self.invariant.begins c.args.part less) told.before kept refl counted told.in_step.same in
-    subst (λ (a : WorkerState). calls_at own c.args.part a.worker c.ask.new.me ≡ calls_at own c.args.part a.worker (slice_index_or a.fronts c.args.part []) ++ record { worker = a.worker; command = c.args.command; reply = c.in_ok-reply.reply } ∷ []) c.self.view_is exact
+    let exact = given_exact own n c.args.part c.args.witnessed.now.part f c.self.inside.seen_events log c.ask.new.me e c.in-Some.count same (c.self.invariant.begins c.args.part less) told.before kept refl counted told.in_step.same in
+    subst (λ (a : WorkerState). calls_at own c.args.part a.worker c.ask.new.me ≡ calls_at own c.args.part a.worker (slice_index_or a.seen_by_part c.args.part []) ++ record { worker = a.worker; command = c.args.command; reply = c.in_ok-reply.reply } ∷ []) c.self.view_is exact
 
 pub invariant_of-self-2 : goal.invariant_of-self-2
 invariant_of-self-2 g c =
     let own : ℕ → ℕ = g.J.Naming.owner in
     let n = c.self.inside.number in
     let log = c.args.witnessed.now.log in
-    let f = slice_index_or c.self.inside.fronts.items c.args.part [] in
+    let f = slice_index_or c.self.inside.seen_by_part.items c.args.part [] in
     let e : Entry = record { worker = n; command = c.args.command; reply = c.in_ok-reply.reply } in
     let same : c.args.witnessed.now.part ≡ c.args.part = sym c.part.ensures ∙ c.if-part.false in
     let told = c.in_ok-reply.ensures in
-    let less : c.args.part < length c.self.inside.fronts.items = search rules in
+    let less : c.args.part < length c.self.inside.seen_by_part.items = search rules in
     let counted : c.in-Some.count ≡ length (calls_at own c.args.part n f) = search (rules, c.self.invariant.counted c.args.part less) in
     let kept : history_of (own c.args.witnessed.now.part) c.ask.new.me ≡ history_of (own c.args.witnessed.now.part) log ++ e ∷ [] = ap (history_of (own c.args.witnessed.now.part)) told.seen.0 ∙ told.written in
-    let exact = given_exact own n c.args.part c.args.witnessed.now.part f c.self.inside.front log c.ask.new.me e c.in-Some.count same (c.self.invariant.begins c.args.part less) told.before kept refl counted told.in_step.same in
+    let exact = given_exact own n c.args.part c.args.witnessed.now.part f c.self.inside.seen_events log c.ask.new.me e c.in-Some.count same (c.self.invariant.begins c.args.part less) told.before kept refl counted told.in_step.same in
     let more : c.in-Some.count + 1 ≡ length (calls_at own c.args.part n c.ask.new.me) = omega (arith, counted, ap length exact, length-append (calls_at own c.args.part n f) (e ∷ [])) in
     let r : Receipt = record { part = c.args.witnessed.now.part; position = accepted_of (table_of c.args.witnessed.now.held); worker = n; command = c.args.command; reply = c.in_ok-reply.reply } in
-    let fronts = c.self.inside.fronts.items in
+    let seen_by_part = c.self.inside.seen_by_part.items in
     let counts = c.self.inside.counts.items in
     let one : c.in-Some.count ≡ slice_index_or counts c.args.part 0 = search rules in
-    let after = worker_after own n c.self.inside.front fronts counts (listed c.self.inside.receipts) c.args.part (c.in-Some.count + 1) c.ask.new.me r c.self.invariant less c.ask.ensures.begins.0 more (omega (arith, told.few)) (omega (arith, one)) in
+    let after = worker_after own n c.self.inside.seen_events seen_by_part counts (listed c.self.inside.receipts) c.args.part (c.in-Some.count + 1) c.ask.new.me r c.self.invariant less c.ask.ensures.begins.0 more (omega (arith, told.few)) (omega (arith, one)) in
     let received : listed c.ask.new.receipts ≡ and_one (listed c.self.inside.receipts) r = told.receipts in
-    subst (λ (l : List Event). IsWorker own n c.ask.new.me (slice_set fronts c.args.part l) (slice_set counts c.args.part (c.in-Some.count + 1)) (listed c.ask.new.receipts)) (sym c.again.ensures)
-    (subst (λ (l : Option (List Receipt)). IsWorker own n c.ask.new.me (slice_set fronts c.args.part c.ask.new.me) (slice_set counts c.args.part (c.in-Some.count + 1)) l) (sym received) after)
+    subst (λ (l : List Event). IsWorker own n c.ask.new.me (slice_set seen_by_part c.args.part l) (slice_set counts c.args.part (c.in-Some.count + 1)) (listed c.ask.new.receipts)) (sym c.copy.ensures)
+    (subst (λ (l : Option (List Receipt)). IsWorker own n c.ask.new.me (slice_set seen_by_part c.args.part c.ask.new.me) (slice_set counts c.args.part (c.in-Some.count + 1)) l) (sym received) after)
 
 pub overflow_add-count : goal.overflow_add-count
 overflow_add-count g c = omega (arith, c.in_ok-reply.ensures.few)
@@ -98,8 +98,8 @@ returns-in_default-clause-mine g c = tt
 pub returns-in_default-clause-count : goal.returns-in_default-clause-count
 returns-in_default-clause-count g c = tt
 
-pub returns-in_default-clause-fronts : goal.returns-in_default-clause-fronts
-returns-in_default-clause-fronts g c = tt
+pub returns-in_default-clause-seen_by_part : goal.returns-in_default-clause-seen_by_part
+returns-in_default-clause-seen_by_part g c = tt
 
 pub returns-in_default-clause-legal : goal.returns-in_default-clause-legal
 returns-in_default-clause-legal g c = tt
@@ -140,8 +140,8 @@ returns-then-part-clause-mine g c = tt
 pub returns-then-part-clause-count : goal.returns-then-part-clause-count
 returns-then-part-clause-count g c = tt
 
-pub returns-then-part-clause-fronts : goal.returns-then-part-clause-fronts
-returns-then-part-clause-fronts g c = tt
+pub returns-then-part-clause-seen_by_part : goal.returns-then-part-clause-seen_by_part
+returns-then-part-clause-seen_by_part g c = tt
 
 pub returns-then-part-clause-legal : goal.returns-then-part-clause-legal
 returns-then-part-clause-legal g c = tt
@@ -179,8 +179,8 @@ returns-in_err-reply-clause-mine g c = rw (given g c) tt
 pub returns-in_err-reply-clause-count : goal.returns-in_err-reply-clause-count
 returns-in_err-reply-clause-count g c = rw (given g c) tt
 
-pub returns-in_err-reply-clause-fronts : goal.returns-in_err-reply-clause-fronts
-returns-in_err-reply-clause-fronts g c = rw (given g c) tt
+pub returns-in_err-reply-clause-seen_by_part : goal.returns-in_err-reply-clause-seen_by_part
+returns-in_err-reply-clause-seen_by_part g c = rw (given g c) tt
 
 pub returns-in_err-reply-clause-legal : goal.returns-in_err-reply-clause-legal
 returns-in_err-reply-clause-legal g c = rw (given g c) tt
@@ -212,10 +212,10 @@ pub returns-in_err-reply-clause-err : goal.returns-in_err-reply-clause-err
 returns-in_err-reply-clause-err g c =
     let told = c.in_err-reply.ensures in
     let n = c.self.inside.number in
-    let fronts = c.self.inside.fronts.items in
+    let seen_by_part = c.self.inside.seen_by_part.items in
     let counts = c.self.inside.counts.items in
-    let with : List Event → Option (List Receipt) → WorkerState = λ seen receipts. record { worker = n; seen = seen; fronts = fronts; counts = counts; receipts = receipts } in
-    let same : with c.ask.new.me (listed c.ask.new.receipts) ≡ with c.self.inside.front (listed c.self.inside.receipts) = λ i. with (told.err.2 i) (told.unlisted.1 i) in
+    let with : List Event → Option (List Receipt) → WorkerState = λ seen receipts. record { worker = n; seen = seen; seen_by_part = seen_by_part; counts = counts; receipts = receipts } in
+    let same : with c.ask.new.me (listed c.ask.new.receipts) ≡ with c.self.inside.seen_events (listed c.self.inside.receipts) = λ i. with (told.err.2 i) (told.unlisted.1 i) in
     rw (given g c, ← c.self.view_is) (same, told.err.0, told.err.1)
 
 pub returns-in_default-clause-written : goal.returns-in_default-clause-written

@@ -17,6 +17,6 @@ returns-in-Some-Some-clause-mine g c = λ yes.
     let w = c.args.witnessed.now in
     let less : w.part < length c.self.inside.counts.items = search (rules, mine.0, at, items) in
     let is : c.in-Some-Some.mine ≡ slice_index_or c.self.inside.counts.items w.part 0 = search (rules, mine.1, at, items) in
-    let covered : IsPrefix (history_of (g.J.Naming.owner w.part) c.self.inside.front) (history_of (g.J.Naming.owner w.part) w.log) = subst (λ (a : WorkerState). IsPrefix (history_of (g.J.Naming.owner w.part) a.seen) (history_of (g.J.Naming.owner w.part) w.log)) (sym c.self.view_is) c.requires.covered in
-    let told = agree g.J.Naming.owner c.self.inside.number c.self.inside.front c.self.inside.fronts.items c.self.inside.counts.items (listed c.self.inside.receipts) w.part c.in-Some-Some.mine c.in-Some-Some.theirs c.self.inside.front w.log c.self.invariant less is c.in-Some-Some.ensures'.some.1 same (prefix_self c.self.inside.front) covered in
+    let covered : IsPrefix (history_of (g.J.Naming.owner w.part) c.self.inside.seen_events) (history_of (g.J.Naming.owner w.part) w.log) = subst (λ (a : WorkerState). IsPrefix (history_of (g.J.Naming.owner w.part) a.seen) (history_of (g.J.Naming.owner w.part) w.log)) (sym c.self.view_is) c.requires.covered in
+    let told = agree g.J.Naming.owner c.self.inside.number c.self.inside.seen_events c.self.inside.seen_by_part.items c.self.inside.counts.items (listed c.self.inside.receipts) w.part c.in-Some-Some.mine c.in-Some-Some.theirs c.self.inside.seen_events w.log c.self.invariant less is c.in-Some-Some.ensures'.some.1 same (prefix_self c.self.inside.seen_events) covered in
     subst (λ (a : WorkerState). HasJustItsOwn g.J.Naming.owner a w) c.self.view_is told

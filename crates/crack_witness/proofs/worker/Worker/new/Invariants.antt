@@ -1,5 +1,5 @@
 use Rattle.std.proofs.Common.{◌≡◌, replicate}
 use Rattle.crack_witness.proofs.worker.Worker.new.Given as goal
 
-abbrev pub invariant-fronts : goal.invariant-fronts
-invariant-fronts g l = l.fronts.items ≡ replicate l.part l.fn.front
+abbrev pub invariant-seen_by_part : goal.invariant-seen_by_part
+invariant-seen_by_part g l = l.seen_by_part.items ≡ replicate l.part l.fn.seen_events

@@ -27,7 +27,7 @@ checkpoint-tells g c = record {
   splits = ap (λ (t : TableState). t.splits) c.ensures.table.0;
   bounds = ap (λ (t : TableState). bounds_from t.limits) c.ensures.table.0;
   accepted = ap (λ (a : WorkerState). replies_to a) c.ensures.worker;
-  leads = (c.ensures.table.0, c.ensures.table.1, (c.ensures.folds, c.ensures.worker));
+  leads = (c.ensures.table.0, c.ensures.table.1, (c.ensures.checkpoints, c.ensures.worker));
 }
 
 pub layout-tells : goal.layout-tells

@@ -1,5 +1,0 @@
-use Rattle.crack_merge.proofs.CarryLaws.{IsNext}
-use Rattle.crack_merge.proofs.complete.put_in_all.Given as goal
-
-abbrev pub invariant-insertions : goal.invariant-insertions
-invariant-insertions l = IsNext l.fn.store l.taken l.carrying

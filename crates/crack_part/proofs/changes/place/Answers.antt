@@ -1,6 +1,0 @@
-use Rattle.crack_part.proofs.SoundLemmas.{IsFaithful-placed}
-use Rattle.crack_part.proofs.changes.place.Goals as goal
-
-pub returns-clause-faithful : goal.returns-clause-faithful
-returns-clause-faithful c = λ plain faithful.
-    IsFaithful-placed c.args.store.now c.admit.new.self c.args.next.now c.args.key c.args.payload plain c.requires.intact c.in_ok-admit.ensures.ok faithful
