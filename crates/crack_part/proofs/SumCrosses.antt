@@ -1,7 +1,7 @@
 -- Known sums may go to another thread, since this holds of the nodes of their tree: of a node, if it holds of the level below it.
 use denote.Model.{View}
 use denote.Model.Goals.{send, has_of, part_has}
-use denote.Model.Local.{PieceNodeParts, rows}
+use denote.Model.Local.{Parts, rows}
 use denote.Model.Marks.{tied_send}
 use denote.Param.Send.{IsSend, sendable, view_send}
 use Rattle.std.proofs.Crossing.{crosses}
@@ -12,10 +12,10 @@ use Rattle.crack_index.specs.declared.sum_tree.PieceNode as declared
 use Rattle.crack_index.specs.declared.sum_tree.PieceNode.TheDeep as deep
 use Rattle.crack_index.specs.declared.sum_tree.PieceNode.TheView as seen
 
-level-send : (p : PieceNodeParts knot.frame) → IsSend (rows knot.frame p deep.member-PieceNode) → IsSend (knot.at-PieceNode p)
+level-send : (p : Parts knot.frame) → IsSend (rows knot.frame p deep.member-PieceNode) → IsSend (knot.at-PieceNode p)
 level-send p h = search (sendable, crosses) depth 20
 
-keeps-send : (p : PieceNodeParts knot.frame) → ((j : deep.the_members) → IsSend (rows knot.frame p j)) → (i : deep.the_members) → IsSend (rows knot.frame (knot.step p) i)
+keeps-send : (p : Parts knot.frame) → ((j : deep.the_members) → IsSend (rows knot.frame p j)) → (i : deep.the_members) → IsSend (rows knot.frame (knot.step p) i)
 keeps-send p h deep.member-PieceNode =
     let R = View (knot.at-PieceNode p) declared.PieceNode declared.the_code seen.view seen.invariant in
     has_of knot.frame send (knot.step p) deep.member-PieceNode (part_has send R (view_send (knot.at-PieceNode p) declared.PieceNode declared.the_code seen.view seen.invariant (level-send p (h deep.member-PieceNode))))
