@@ -19,7 +19,10 @@ HERE = pathlib.Path(__file__).resolve().parent
 FILL = """
 import resource
 from ways import crackd
-table, placed, keys, blocks = crackd.Table(), 0, range(20_000), []
+table, keys, blocks = crackd.Table(), range(20_000), []
+# (the first count takes over the memory of these rows; a later one needs more for the others)
+placed = len(table.insert_many(keys, keys))
+table.count()
 with open("/proc/self/statm", encoding="ascii") as file:
     room = int(file.read().split()[0]) * resource.getpagesize() + 60 * 2**20
 resource.setrlimit(resource.RLIMIT_AS, (room, resource.RLIM_INFINITY))
