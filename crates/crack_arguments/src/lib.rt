@@ -292,7 +292,7 @@ fn split_values<'a>(alloc: Global) -> Arg<'a> {
         .help("First keys of partitions: rising, 1 to 2^64 - 1; 63 at most")
 }
 
-/// A subcommand with the options and splits of an opening. Its help ends with the text `behind`.
+/// A subcommand with the options and splits with which a table is opened. Its help ends with the text `behind`.
 fn opening_command<'a>(alloc: Global, name: &'a str, about: &'a str, behind: &'a str) -> Built<'a> {
     let bare = Command::new(alloc, name).about(about).after_help(behind);
     let limited = with_options(alloc, Ok(bare), OPENING_CHOICES.as_slice());

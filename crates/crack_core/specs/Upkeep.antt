@@ -27,8 +27,8 @@ with_checkpoints limits part (job ∷ jobs) (result ∷ results) table =
     (if is_kept_up limits part job result table then Checkpoint part ∷ job ∷ [] else job ∷ []) ++ with_checkpoints limits part jobs results (after_job limits part job result table)
 with_checkpoints limits part _ _ table = []
 
--- the outcomes of the jobs that `with_checkpoints` gives: those of these jobs, and before a job that of its inserted
--- checkpoint
+-- the outcomes of the jobs that `with_checkpoints` gives: these outcomes, and before each outcome of a job with an
+-- inserted checkpoint, the outcome of this checkpoint
 abbrev pub with_checkpoints_made : Limits → ℕ → List Job → List (Result Done Refusal) → PlainView → List (Result Done Refusal)
 with_checkpoints_made limits part (job ∷ jobs) (result ∷ results) table =
     (if is_kept_up limits part job result table then Ok (CheckpointMade table.since) ∷ result ∷ [] else result ∷ []) ++ with_checkpoints_made limits part jobs results (after_job limits part job result table)

@@ -240,9 +240,9 @@ impl Core {
         checkpoint_at(&mut self.partitions, part)
     }
 
-    /// Does these jobs in order, and returns the outcome of each. A refused job leaves what `step` and `checkpoint`
-    /// say, and the next one is done. Refused with `OutOfMemory`, before the first job, if no memory is found for the
-    /// list of the outcomes.
+    /// Does these jobs in order, and returns the outcome of each. A refused job changes no row, and the next one is
+    /// done. A step that is refused with `OutOfMemory` may have cracked or merged, as `Partition::apply` says. The
+    /// call is refused with `OutOfMemory`, before the first job, if no memory is found for the list of the outcomes.
     pub fn run_jobs(&mut self, jobs: &[Job]) -> Result<Vec<Result<Done, Refusal>>, Refusal>
         ensures replies { IfOk result (λ results.
             AreExpectedOutcomes self.old.limits self.old.splits (tables_of self.old.parts) jobs.now results.items) }

@@ -49,7 +49,8 @@ pub(crate) fn whole(lower: i128, upper: i128) -> i128
     }
 }
 
-/// The source's sum of the keys from `low` up to but not including `high`, or `UNKNOWN`.
+/// The sum that the source gives for the keys from `low` up to but not including `high`, or `UNKNOWN` if it gives
+/// none or these numbers aren't a range.
 pub(crate) fn asked<S: SumSource>(source: &S, low: BoundNumber, high: BoundNumber) -> i128
     ensures { IsKnown result → S.says source.now low high result }
 {

@@ -314,9 +314,9 @@ impl CrackerIndex {
     {
         raising::raise_down(&mut self.root, most, visitor)
     }
-    /// Walks over the bounds from the lowest up. The visitor is given each, and returns its new place. No bound is
-    /// placed before the one below it. Returns the place of the highest bound, or 0 if there is none. O(bounds).
-    /// Takes no memory.
+    /// Walks over the bounds from the lowest up. The visitor is given each, and returns the bound's new place. If
+    /// that is before the place of the bound below it, the bound gets the latter's place instead. Returns the place
+    /// of the highest bound, or 0 if there is none. O(bounds). Takes no memory.
     pub fn place_each<V: Placer>(&mut self, visitor: &mut V) -> usize
         requires { V.is_ready visitor.old }
         ensures places { Places V.places 0 self.old.marks visitor.old self.new.marks visitor.new result }

@@ -62,8 +62,9 @@ pub record IsCutOff {D : Type 0} (bounds : D → Bounds) (splits : D → List Bo
   pub left_is : IsLeftOf [] answers unwritten
   pub all_sent : fault.refusal ≡ ReadFault → (unsent ≡ []) × (unwritten ≡ [])
 
--- why a session was cut off: its writer failed, its reader failed, or it made as many reads as it may, each of which
--- brought a byte
+-- why a session was cut off: its writer failed, its reader failed, or it made `MOST_READS` (1,000,000,000) reads,
+-- so that the reader's count of reads went from `reads` to `reads'`; each brought a byte, so that the reader's
+-- bytes, if known, are at least as many
 abbrev pub IsCause : Refusal → Bool → Bool → ℕ → ℕ → Option (List ℕ) → Type 0
 IsCause refusal reader_failed writer_failed reads reads' known = ((refusal ≡ WriteFault) × (writer_failed ≡ true))
     ⊎ ((refusal ≡ ReadFault) × ((reader_failed ≡ true)

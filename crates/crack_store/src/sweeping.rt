@@ -27,9 +27,9 @@ use crack_index::{Mark, Placer};
 use crack_pending::PendingOut;
 use crack_row::{Bound, InnerBound, KeyNumber, KeyRange, Row};
 
-/// Carries the `count` pending insertions of a range, wherever doomed rows are; `first` is the place of the first
-/// of them. Returns whether memory was found for them; if not, nothing has changed. O(bounds), and O(pieces) for
-/// each of them.
+/// Carries the `count` pending insertions of a range. `first` is the place of the first of these among all pending
+/// insertions. Doomed rows may be anywhere. Returns whether memory was found for the carried rows; if not, nothing
+/// has changed. O(bounds), and O(pieces) for each carried row.
 pub(crate) fn carry_by_sweeping(
     inside: &mut Inside,
     range: KeyRange,

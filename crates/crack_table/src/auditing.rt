@@ -32,7 +32,8 @@ pub(crate) fn audit<J: Naming>(
     }
 }
 
-/// Checks that the receipts of all workers cover the lists of all partitions. Refused as `cover` is, and with
+/// Checks that the receipts of all workers cover the lists of all partitions: each entry has exactly one receipt,
+/// which holds it, and there are no others. Refused with `StrangeReceipt` at the place that `cover` says, and with
 /// `OutOfMemory` if no memory is found.
 fn compare_lists<J: Naming>(
     alloc: Global,

@@ -408,7 +408,7 @@ fn write<R: BenchOutput>(rt: &R, name: &str, number: u64) -> Outcome {
     Ok(())
 }
 
-/// Writes the counts of the partition's merges.
+/// Writes to standard error how many rows the partition's merges put in, took out, evicted, moved and pulled.
 fn write_tally<R: BenchOutput>(rt: &R, partition: &Partition) -> Outcome {
     let did = partition.tally();
     let (insertions, deletions, evicted) = (did.insertions, did.deletions, did.evicted);
