@@ -480,10 +480,10 @@ without its proof, the 99.9th percentile of these counts was 3.6 ms and is now 0
 
 Each of 10,000 idle clients of a server takes 591 bytes (30 November 2026). The server's memory stays flat: with 1,000 clients that connect, work and leave at
 random, 30,529 in an hour with 781,749 commands, it had 7.31 MB after 40 minutes, and 7.46 MB after 50 and after 60. A listing of a million rows of one
-partition holds the lock for 16 ms of processor time (27 ms the longest of 20); on a slower host 27 ms (32), and the slowest count beside one waited 103 ms. Its
-text, by `perf` four fifths of the listing, is written after that, 24 KB in each turn. While a table of one partition grows to a million rows, the slowest insert
-takes 1.7 ms of processor time, as a list of places of pending rows doubles, and 0.4 ms as one of the 64 maps of serials does. With a single map the slowest took
-21 ms (by the library compiled without its proof, 30 November 2026).
+partition, while others insert and delete, holds the lock for 21 to 29 ms of processor time on a slow host, and the slowest count beside one waited 28 to 32 ms
+(1 December 2026). The library lists a million rows in 8.6 ms there if none is in a cell that was freed; else rows are also sorted. The text of a listing is
+written after that, 24 KB in each turn. While a table of one partition grows to a million rows, the slowest insert takes 3.1 ms of processor time on this host, one
+of 64 partitions 1.1 ms. With a single map of serials the slowest took 21 ms (by the library compiled without its proof, 30 November 2026).
 
 Over TCP beside a Redis sorted set, one partition and four workers (`bench/run.py --once latency crowds`, 30 November 2026): one client beside three that send
 three requests at a time waits 0.17 to 0.22 ms at the 99th percentile of each request, with Redis 0.13 to 0.14; at the 99.9th 0.63 to 0.91 ms, with Redis 0.17
