@@ -163,8 +163,8 @@ def tell_stalls(table, what, took, most, is_bounded):
 
 
 def measure_stalls(table, _runs):
-    """The worst request while another client lists all rows again and again, and while a table grows; and the processor
-    time of what it may wait for."""
+    """The worst request while another client lists all rows again and again, of which one in a hundred has a cell that
+    was freed before, and while a table grows; and the processor time of what it may wait for."""
     of = lambda took, name: {point: took[f"{name}_{point}"] for point in POINTS}
     for splits in ([], SPLITS):
         parts = f"{sizes.STALL_ROWS} rows in {len(splits) + 1} part" + "s" * bool(splits)

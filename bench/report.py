@@ -310,8 +310,8 @@ def rival_text(measured):
     carry, pull = rivals.steps
     return f"""- **Inserts: {load.ratio():.1f} times as long.** `crackd` gives each row a permanent number, and keeps a map from these numbers to cells; the column has neither. A pending row
   takes {measured.memory["pending"]:.0f} bytes of `crackd`'s memory, and {FAST_BYTES} of the column's lists. The system supplies memory page by page when it is first written.
-- **A first count of everything: {everything.ratio():.1f} times as long.** `crackd` reads each row through its handle, whose generation shows that the cell is still the row's own. A
-  separate step then writes the row's key, handle and payload into the column. The other column reads each row by its slot alone.
+- **A first count of everything: {1 / everything.ratio():.0f} times as fast.** A column without rows takes over the lists of the pending rows as they are; the other column reads
+  and writes each row.
 - **Counts and sums with nothing pending: {spread(queries)} times as long.** Both crack by the same loop, which moves 24 bytes a row in `crackd`, and 20 in the column.
   The column stores payloads beside keys, so a sum reads 16 bytes a row; `crackd` stores payloads separately, and reads 8. `crackd` also clips each query to the
   partition's keys.
@@ -480,10 +480,18 @@ without its proof, the 99.9th percentile of these counts was 3.6 ms and is now 0
 
 Each of 10,000 idle clients of a server takes 591 bytes (30 November 2026). The server's memory stays flat: with 1,000 clients that connect, work and leave at
 random, 30,529 in an hour with 781,749 commands, it had 7.31 MB after 40 minutes, and 7.46 MB after 50 and after 60. A listing of a million rows of one
-partition, while others insert and delete, holds the lock for 21 to 29 ms of processor time on a slow host, and the slowest count beside one waited 28 to 32 ms
-(1 December 2026). The library lists a million rows in 8.6 ms there if none is in a cell that was freed; else rows are also sorted. The text of a listing is
-written after that, 24 KB in each turn. While a table of one partition grows to a million rows, the slowest insert takes 3.1 ms of processor time on this host, one
-of 64 partitions 1.1 ms. With a single map of serials the slowest took 21 ms (by the library compiled without its proof, 30 November 2026).
+partition, a hundredth of which are in cells that were freed before, holds the lock for 11 ms of processor time, and one of 20 for 25 ms; beside listings the
+slowest count waited 14 ms, the slowest insert 24 ms (1 December 2026). The kernel alone takes 14.6 ms to supply the list's 6,000 pages if they are new. A pass
+over the cells puts the few rows aside that are out of order: before, it sorted all rows, in 57 ms where it now takes 18 (both compiled without a proof, beside
+other work). The text of a listing is written after that, 24 KB in each turn. While a table of one partition grows to a million rows, the slowest insert takes 0.75
+ms of the server's processor time, one of 64 partitions 0.38 ms. With a single map of serials the slowest took 21 ms (by the library compiled without its proof, 30
+November 2026). By the library the slowest insert is one at which one of the 64 maps doubles, at 590,000 rows: it takes 306 µs or more. Compiled without its proof
+it takes 288 µs, of which 72 new pages take 160, the rehash 87 and copies 40; with 128 maps 164 µs, but a load takes up to 9 % longer.
+
+The library loads 500,000 rows by `crackd_insert_many` in 51 ms of processor time, and numpy sorts the same rows, by `argsort` and `take`, in 62 ms. By `perf` a
+third of that load is spent in the maps of serials, two fifths in the kernel, which supplies 11,100 pages to the load and 2,900 to numpy, and a fifth on cells and
+lists. Of 1,000 sums with 10 deletes and 10 inserts before each, moving rows past bounds takes three quarters under `complete` and `gradual`, two fifths under
+`ripple` and `auto`, where cracks take a third; deletes take 6 to 14 %, and inserts 2 % at most (compiled without a proof, with its checks removed).
 
 Over TCP beside a Redis sorted set, one partition and four workers (`bench/run.py --once latency crowds`, 30 November 2026): one client beside three that send
 three requests at a time waits 0.17 to 0.22 ms at the 99th percentile of each request, with Redis 0.13 to 0.14; at the 99.9th 0.63 to 0.91 ms, with Redis 0.17

@@ -9,8 +9,12 @@ use std::sync::atomic::{AtomicBool, Ordering};
 use std::thread;
 use std::time::Instant;
 
-/// How many inserts are sent at a time before anything is measured.
+/// How many inserts are sent at a time before anything is measured, and of how many rows one is replaced by a new one.
 const CHUNK: u64 = 1000;
+const RENEWED: u64 = 100;
+
+/// A count of all rows, which merges all that is pending.
+const EVERYTHING: &str = "count 0 18446744073709551616\n";
 
 /// The time of a clock, as Linux has it.
 #[repr(C)]
@@ -77,14 +81,33 @@ impl Client {
         self.ask(&request, "row ")
     }
 
-    /// Inserts rows, many at a time.
-    fn load(&mut self, rows: u64) -> io::Result<()> {
-        for _ in 0..rows / CHUNK {
-            let lines: String = (0..CHUNK).map(|_| format!("insert {} 7\n", self.numbers.word())).collect();
+    /// Inserts rows, many at a time. Returns the numbers of one row of each `RENEWED`.
+    fn load(&mut self, rows: u64) -> io::Result<Vec<String>> {
+        let mut some = Vec::new();
+        for first in (0..rows).step_by(CHUNK as usize) {
+            let next = rows.min(first + CHUNK);
+            let lines: String = (first..next).map(|_| format!("insert {} 7\n", self.numbers.word())).collect();
             self.writer.write_all(lines.as_bytes())?;
-            (0..CHUNK).try_for_each(|_| self.read("row "))?;
+            for number in first..next {
+                self.read("row ")?;
+                if number % RENEWED == 0 {
+                    some.push(self.reply[4..].trim_end().to_string());
+                }
+            }
         }
-        Ok(())
+        Ok(some)
+    }
+
+    /// Deletes these rows, has the deletions merged, and inserts as many rows, which take the freed cells.
+    fn renew(&mut self, rows: &[String]) -> io::Result<()> {
+        for some in rows.chunks(CHUNK as usize) {
+            let lines: String = some.iter().map(|row| format!("delete {row}\n")).collect();
+            self.writer.write_all(lines.as_bytes())?;
+            some.iter().try_for_each(|_| self.read("gone "))?;
+        }
+        self.ask(EVERYTHING, "count ")?;
+        self.load(rows.len() as u64)?;
+        self.ask(EVERYTHING, "count ").map(|_| ())
     }
 
     /// Lists all rows. Returns the processor time of the server until the listing begins: it has gathered the rows.
@@ -118,8 +141,9 @@ const LISTINGS: usize = 20;
 /// Loads a server, and measures single requests while this many clients list all rows. Prints how many rows there are.
 pub fn list(port: u16, process: u64, rows: u64, listers: u64, rounds: u64) -> io::Result<()> {
     let (mut first, processor, mut buffer) = (Client::connect(port, 1)?, Processor::of(process), vec![0; 1 << 18]);
-    first.load(rows)?;
-    first.ask("count 0 18446744073709551616\n", "count ")?;
+    let some = first.load(rows)?;
+    first.ask(EVERYTHING, "count ")?;
+    first.renew(&some)?;
     let gathered = (0..LISTINGS).map(|_| first.list_once(processor, &mut buffer)).collect::<io::Result<_>>()?;
     report("gathering", gathered);
     let (stopped, mut took) = (AtomicBool::new(false), [const { Vec::new() }; 3]);

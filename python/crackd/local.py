@@ -19,7 +19,7 @@ from .placed import NOWHERE, Placed, PlacedOne, Taken, joined
 from .routing import FEW_PARTS, shard_of
 from .typed import RowNumbers
 
-HISTORY = 65_536
+HISTORY = 1_000_000
 MOST_CELLS = 16_777_215
 MOST_LIFE = 1 << 40
 # A single call holds the interpreter's lock if it reads or moves at most this many rows. Then it takes about 4 ms at

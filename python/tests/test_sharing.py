@@ -140,7 +140,8 @@ class Interrupted(Threads):
             thread = threading.Thread(target=lambda: faults.extend(self.run_threads([work])))
             faults = []
             thread.start()
-            keys, stopped = np.tile(np.arange(0, 1400, 2), 5), 0
+            # the kernel may look at the timer only each 4 ms, so a call has many rows
+            keys, stopped = np.tile(np.arange(0, 1400, 2), 20), 0
             try:
                 # the alarm ends a test that hangs
                 for number in range(40):

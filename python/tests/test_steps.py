@@ -318,8 +318,8 @@ class Samples(unittest.TestCase):
 class Defaults(unittest.TestCase):
     """What a table has if nothing is said."""
 
-    def test_histories_are_emptied_after_65536_commands_of_a_partition(self):
-        for rows, left in [(65_536, 65_536), (65_537, 1)]:
+    def test_histories_are_emptied_after_a_million_commands_of_a_partition(self):
+        for rows, left in [(1_000_000, 1_000_000), (1_000_001, 1)]:
             with crackd.Table() as table:
                 table.insert_many(np.arange(rows), np.arange(rows))
                 self.assertEqual((table.checkpoint(), table.checkpoint()), (left, 0))

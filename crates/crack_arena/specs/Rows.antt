@@ -1,4 +1,4 @@
--- The keys and payloads of rows in cells.
+-- The keys and payloads of rows in cells. A handle reads the row in its cell, unless the cell was freed since.
 use Rattle.std.specs.Prelude.{ℕ, ℤ, pos, List, map, Option, Some, None}
 use Rattle.crack_row.specs.Rows.{amount}
 use Rattle.crack_row.specs.declared.TheConstants.{GREATEST_KEY}
@@ -6,7 +6,7 @@ use Rattle.crack_row.specs.declared.Payload.{Payload}
 use Rattle.crack_row.specs.declared.Row.{Row}
 use Rattle.crack_arena.specs.Arena.{Cell, Handle, read}
 
--- the key of the row that was read, or 0 if none was
+-- the key of a row, or 0 if there is none
 abbrev pub key_of_row : Option Row → ℕ
 key_of_row None = 0
 key_of_row (Some r) = r.key.0
@@ -19,7 +19,7 @@ key_at cells h = key_of_row (read cells h)
 abbrev pub no_payload : Payload
 no_payload = record { 0 = pos 0 }
 
--- the payload of the row that was read, or 0 if none was
+-- the payload of a row, or 0 if there is none
 abbrev pub payload_of_row : Option Row → Payload
 payload_of_row None = no_payload
 payload_of_row (Some r) = r.payload
@@ -28,7 +28,7 @@ payload_of_row (Some r) = r.payload
 abbrev pub payload_at : List (Cell Row) → Handle → Payload
 payload_at cells h = payload_of_row (read cells h)
 
--- what the row that was read adds to a sum: its payload, or 0 if none was
+-- what a row adds to a sum: its payload, or 0 if there is no row
 abbrev pub amount_of_row : Option Row → ℤ
 amount_of_row None = pos 0
 amount_of_row (Some r) = amount r.payload
@@ -37,10 +37,10 @@ amount_of_row (Some r) = amount r.payload
 abbrev pub amount_at : List (Cell Row) → Handle → ℤ
 amount_at cells h = amount_of_row (read cells h)
 
--- the keys of the rows that the handles read
+-- the keys of the rows that the handles read, in order; 0 for a handle that reads none
 abbrev pub keys_at : List (Cell Row) → List Handle → List ℕ
 keys_at cells handles = map (key_at cells) handles
 
--- the number that stands for a key that isn't remembered
+-- the key that is stored if none is remembered: the greatest key, so a row with that key counts as unknown
 abbrev pub unknown : ℕ
 unknown = GREATEST_KEY

@@ -25,6 +25,7 @@ pub struct PutRefused<T> {
 impl<T: Drop> From<PutRefused<T>> for Refusal {
     ghost from_gives = { λ _ e. e ≡ OutOfMemory };
 
+    /// Always `OutOfMemory`. The value that wasn't stored is dropped.
     fn from(_refused: PutRefused<T>) -> Refusal {
         Refusal::OutOfMemory
     }
@@ -64,7 +65,7 @@ impl<T> Model for Arena<T> {
 }
 
 impl<T: Copy> Arena<T> {
-    /// Makes an empty arena. Takes no memory.
+    /// Makes an empty arena. O(1), takes no memory.
     pub fn new(alloc: Global) -> Arena<T>
         ensures cells { result.cells ≡ [] }
         ensures free { result.free ≡ [] }
@@ -78,36 +79,36 @@ impl<T: Copy> Arena<T> {
         }
     }
 
-    /// The number of cells, including free ones.
+    /// The number of cells, including free ones. O(1).
     pub fn cells(&self) -> usize
         ensures { result ≡ length self.now.cells }
     {
         self.cells.len()
     }
 
-    /// The number of free cells.
+    /// The number of free cells. O(1).
     pub fn free_cells(&self) -> usize
         ensures { result ≡ length self.now.free }
     {
         self.free
     }
 
-    /// How often cells were freed.
+    /// How often cells of the arena were freed, in total. O(1).
     pub fn freed(&self) -> u64
         ensures { result ≡ freed self.now }
     {
         self.freed
     }
 
-    /// States the invariants of every arena. Does nothing at run time.
+    /// States, for proofs, what holds of every arena. Does nothing at run time.
     pub fn recall_invariant(&self)
         ensures { IsWholeArena self.now }
     {
         let _ = &self.cells;
     }
 
-    /// States that a spent handle, one whose cell was freed after it was made, reads nothing after any further
-    /// calls. Does nothing at run time.
+    /// States, for proofs, that a spent handle reads nothing after any further calls. A handle is spent if its cell
+    /// was freed after the handle was made. Does nothing at run time.
     pub fn stays_spent(&self, handle: Handle<T>)
         requires { IsSpent self.now.cells handle }
         ensures { (calls : List (ArenaCall T)) → read (after_calls calls self.now).cells handle ≡ None }
@@ -115,7 +116,8 @@ impl<T: Copy> Arena<T> {
         let _ = &self.cells;
     }
 
-    /// The value that the handle reads, if any. O(1), takes no memory.
+    /// The value of the handle's cell. `None` if the cell is free, its generation isn't the handle's, or there is no
+    /// such cell. O(1), takes no memory.
     pub fn get(&self, handle: Handle<T>) -> Option<&T>
         ensures { option_copied result ≡ read self.now.cells handle }
     {
@@ -130,8 +132,8 @@ impl<T: Copy> Arena<T> {
         }
     }
 
-    /// The adjacent cells from this number to the end of its page, at most 256; none if the number is `cells()` or
-    /// more. O(1).
+    /// The adjacent cells from the one with the number `slot` to the last one of its page: at most 256, and none if
+    /// the number is `cells()` or more. O(1).
     pub fn cells_from(&self, slot: u32) -> CellRun<'_, T>
         ensures cells { result ≡ take (length result) (drop slot self.now.cells) }
         ensures some { slot < length self.now.cells → 0 < length result }
@@ -155,8 +157,9 @@ impl<T: Copy> Arena<T> {
         Ok(())
     }
 
-    /// Puts the value into the first free cell, or else into a new one. O(1), except for growth. Takes no memory if
-    /// there is room. If no memory is found, the error returns the value.
+    /// Stores the value in the first free cell, or in a new cell if none is free, and returns the cell's handle.
+    /// There must be a free cell, or fewer than `MOST_CELLS` cells. O(1), except for growth. Takes no memory if there
+    /// is room. If no memory is found, the error returns the value, and nothing has changed.
     #[inline(always)]
     pub fn put(&mut self, value: T) -> Result<Handle<T>, PutRefused<T>>
         requires { CanPut self.old }
@@ -189,7 +192,8 @@ impl<T: Copy> Arena<T> {
         Ok(())
     }
 
-    /// Puts the value into the first free cell, or else into a new one. There must be room. O(1), takes no memory.
+    /// Stores the value in the first free cell, or in a new cell if none is free, and returns the cell's handle.
+    /// There must be a free cell, or fewer than `MOST_CELLS` cells; and there must be room. O(1), takes no memory.
     #[inline(always)]
     pub fn put_reserved(&mut self, value: T) -> Handle<T>
         requires room { 0 < self.old.room }
@@ -218,7 +222,7 @@ impl<T: Copy> Arena<T> {
     }
 
     /// Replaces the value that the handle reads, and returns the old one. If the handle reads nothing, returns the
-    /// new value as an error. O(1), takes no memory.
+    /// new value as an error, and changes nothing. O(1), takes no memory.
     pub fn set(&mut self, handle: Handle<T>, value: T) -> Result<T, T>
         ensures value { MatchResult result (λ old. read self.old.cells handle ≡ Some old) (λ back. back ≡ value) }
         ensures spent { OnErr result (read self.old.cells handle ≡ None) }
@@ -238,7 +242,8 @@ impl<T: Copy> Arena<T> {
     }
 
     /// Frees the handle's cell, which becomes the first free one, and returns its value. The handle never reads
-    /// anything again. Returns `None` if it reads nothing. O(1), takes no memory.
+    /// anything again. Returns `None`, and changes nothing, if the handle reads nothing. `freed()` must be below
+    /// `MOST_FREED`. O(1), takes no memory.
     pub fn free(&mut self, handle: Handle<T>) -> Option<T>
         requires { freed self.old < MOST_FREED }
         ensures value { result ≡ read self.old.cells handle }
@@ -266,7 +271,7 @@ impl<T: Copy> Arena<T> {
         Some(value)
     }
 
-    /// Whether the cell with this number has a value and this generation.
+    /// Whether there is a cell with the number `slot`, and it has a value and this generation. O(1).
     fn reads(&self, slot: usize, generation: u64) -> bool
         ensures { result ≡ is_some (read self.now.cells (record { slot = slot; generation = generation })) }
     {

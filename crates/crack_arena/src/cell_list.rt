@@ -10,7 +10,8 @@ use crate::page::{CELLS, Page};
 use std::alloc::{AllocError, Global};
 use std::marker::Model;
 
-/// A full list of pages grows by this many times its length, so that growth copies little.
+/// How many times its own length is added to a full list of pages: it becomes four times as long, so that growth
+/// copies little.
 const GROWTH: usize = 3;
 
 /// Cells numbered from 0, with room for more. Cell n is cell n mod 256 of page n / 256.
@@ -56,7 +57,7 @@ impl<C> CellList<C> {
         self.len
     }
 
-    /// The cell with this number, if there is one. O(1).
+    /// The cell with this number, or `None` if there is none. O(1).
     #[inline(always)]
     pub(crate) fn get(&self, number: usize) -> Option<&C>
         ensures { IsItemAt self.now.items number result }
@@ -68,7 +69,8 @@ impl<C> CellList<C> {
         }
     }
 
-    /// The adjacent cells from this number to the end of its page; none if the number is `len()` or more. O(1).
+    /// The adjacent cells from the one with this number to the last one of its page; none if the number is `len()` or
+    /// more. O(1).
     pub(crate) fn side_by_side(&self, number: usize) -> &[C]
         ensures cells { result.now ≡ take (length result.now) (drop number self.now.items) }
         ensures some { number < length self.now.items → 0 < length result.now }
@@ -117,7 +119,7 @@ impl<C> CellList<C> {
         take_pages(&mut self.pages, needed - left)
     }
 
-    /// Appends a cell. There must be room. O(1), takes no memory.
+    /// Appends a cell. There must be room, and fewer than `MOST_CELLS` cells. O(1), takes no memory.
     #[inline(always)]
     pub(crate) fn push_reserved(&mut self, cell: C)
         requires room { 0 < self.old.room }
@@ -131,8 +133,8 @@ impl<C> CellList<C> {
     }
 }
 
-/// The number of pages that `used` and `additional` cells fill together. Their sum, which may overflow, isn't
-/// computed.
+/// How many pages it takes to store `used` cells, fewer than `CELLS`, and `additional` more. The sum of the two isn't
+/// computed, since it may overflow.
 fn pages_for(used: usize, additional: usize) -> usize
     requires { used < 256 }
     ensures enough { used + additional ≤ 256 * result }
@@ -141,7 +143,8 @@ fn pages_for(used: usize, additional: usize) -> usize
     additional / CELLS + (additional % CELLS + used + (CELLS - 1)) / CELLS
 }
 
-/// Allocates this many more pages. If an allocation is refused, frees the pages that this call allocated.
+/// Appends `more` new pages without cells: O(more), except for the growth of the list of pages. Refused if no memory
+/// is found; then the pages that this call allocated are freed.
 #[cold]
 #[inline(never)]
 fn take_pages<C>(pages: &mut Vec<Page<C>>, more: usize) -> Result<(), AllocError>
@@ -154,7 +157,8 @@ fn take_pages<C>(pages: &mut Vec<Page<C>>, more: usize) -> Result<(), AllocError
     push_pages(pages, more)
 }
 
-/// Allocates this many more pages, for which the list of pages has room. If one is refused, frees the others.
+/// Appends `more` new pages without cells. The list of pages must have room for them. O(more). Refused if no memory
+/// is found; then the pages that this call allocated are freed.
 fn push_pages<C>(pages: &mut Vec<Page<C>>, more: usize) -> Result<(), AllocError>
     requires { vec_len pages.old + more ≤ vec_capacity pages.old }
     ensures { pages.new.items ≡ (if is_ok result then pages.old.items ++ replicate more [] else pages.old.items) }
@@ -173,7 +177,7 @@ fn push_pages<C>(pages: &mut Vec<Page<C>>, more: usize) -> Result<(), AllocError
     Ok(())
 }
 
-/// Frees all pages after the first `kept`. The freed pages have no cells.
+/// Frees all pages after the first `kept`. They must have no cells. O(freed pages).
 fn give_back<C>(pages: &mut Vec<Page<C>>, kept: usize)
     requires within { kept ≤ length pages.old.items }
     requires empty { drop kept pages.old.items ≡ replicate (length pages.old.items - kept) [] }

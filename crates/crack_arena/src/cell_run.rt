@@ -33,7 +33,7 @@ impl<'a, T> CellRun<'a, T> {
         CellRun { cells }
     }
 
-    /// The number of cells.
+    /// The number of cells. O(1).
     pub fn len(&self) -> usize
         ensures { result ≡ length self.now }
     {

@@ -1,4 +1,4 @@
-//! Handles, each of which names a cell at a generation.
+//! Handles, each of which names a cell at a generation. Each function takes O(1).
 ghost use Rattle.std.specs.Prelude.{◌≡◌, ⊤};
 ghost use Rattle.std.proofs.Common.{rules};
 ghost use Rattle.std.specs.Cmp.Rules.{comparing};
@@ -36,6 +36,7 @@ impl<T> Clone for Handle<T> {
 
     ghost is_infallible = { λ _. ⊤ };
 
+    /// The same handle. Never fails.
     fn clone(&self) -> Result<Self, AllocError> {
         Ok(Handle {
             word: self.word,
@@ -49,6 +50,7 @@ impl<T> PartialEq for Handle<T> {
 
     ghost laws = { Prim.search (comparing, rules) };
 
+    /// Whether both handles name the same cell at the same generation.
     fn eq(&self, other: &Self) -> bool {
         self.word == other.word
     }
@@ -59,6 +61,7 @@ impl<T> Eq for Handle<T> {
 }
 
 impl<T> fmt::Debug for Handle<T> {
+    /// Writes the cell's number and the generation. Fails if the writer fails.
     fn fmt<W: fmt::Write>(&self, f: &mut fmt::Formatter<W>) -> fmt::Result {
         f.debug_struct("Handle")
             .field("slot", &self.slot())
@@ -68,7 +71,8 @@ impl<T> fmt::Debug for Handle<T> {
 }
 
 impl<T> Handle<T> {
-    /// The handle with these two numbers, for code that stores them separately. No arena need have made it.
+    /// The handle of this cell at this generation, for code that stores the two separately. It isn't checked that an
+    /// arena made such a handle.
     #[inline(always)]
     pub fn new(slot: Slot, generation: Generation) -> Handle<T>
         ensures { result ≡ record { slot = slot; generation = generation } }
@@ -76,7 +80,7 @@ impl<T> Handle<T> {
         Handle::of(Word::new(slot.number(), generation.number()))
     }
 
-    /// The handle with the number and the generation of this word.
+    /// The handle with the cell number and the generation in this word.
     #[inline(always)]
     pub(crate) fn of(word: Word) -> Handle<T>
         ensures { result ≡ word }
@@ -87,7 +91,7 @@ impl<T> Handle<T> {
         }
     }
 
-    /// The cell's number, from 0.
+    /// The cell's number, counted from 0.
     #[inline(always)]
     pub fn slot(&self) -> u32
         ensures { result ≡ self.now.slot }

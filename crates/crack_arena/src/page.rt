@@ -37,7 +37,7 @@ impl<C> Page<C> {
         Ok(Page { cells })
     }
 
-    /// The cell at this place. O(1).
+    /// The cell at this place in the page, counted from 0. O(1).
     pub(crate) fn at(&self, place: usize) -> &C
         requires { place < length self.now }
         ensures { result.now ≡ slice_index_or self.now place result.now }
@@ -45,7 +45,7 @@ impl<C> Page<C> {
         &self.cells[place]
     }
 
-    /// The cells from this place on.
+    /// The cells from this place on, counted from 0; none if the place is the number of cells. O(1).
     pub(crate) fn cells_from(&self, place: usize) -> &[C]
         requires { place ≤ length self.now }
         ensures { result.now ≡ drop place self.now }
@@ -53,7 +53,7 @@ impl<C> Page<C> {
         &self.cells[place..]
     }
 
-    /// Replaces the cell at this place, and returns the old one. O(1).
+    /// Replaces the cell at this place, counted from 0, and returns the old one. O(1).
     pub(crate) fn replace(&mut self, place: usize, cell: C) -> C
         requires { place < length self.old }
         ensures value { result ≡ slice_index_or self.old place result }
@@ -62,7 +62,7 @@ impl<C> Page<C> {
         mem::replace(&mut self.cells[place], cell)
     }
 
-    /// Appends a cell. O(1), takes no memory.
+    /// Appends a cell to a page with fewer than `CELLS` cells. O(1), takes no memory.
     pub(crate) fn push(&mut self, cell: C)
         requires { length self.old < 256 }
         ensures { self.new ≡ self.old ++ cell ∷ [] }

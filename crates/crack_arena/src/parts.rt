@@ -1,4 +1,4 @@
-//! The two numbers of a handle, for code that stores them separately.
+//! The two numbers of a handle, for code that stores them separately. Each function takes O(1).
 ghost use Rattle.std.specs.Prelude.{◌≡◌, ◌%◌, ◌<◌, ◌^◌, ⊤};
 
 use crate::words::{NUMBERS, Word};
@@ -32,6 +32,7 @@ impl Clone for Slot {
 
     ghost is_infallible = { λ _. ⊤ };
 
+    /// The same slot. Never fails.
     fn clone(&self) -> Result<Self, AllocError> {
         Ok(*self)
     }
@@ -48,7 +49,7 @@ impl Slot {
         }
     }
 
-    /// The slot of the handle with this word.
+    /// The cell number in this word, as a slot.
     #[inline(always)]
     pub(crate) fn of(word: Word) -> Slot
         ensures { result ≡ word.slot }
@@ -94,13 +95,14 @@ impl Clone for Generation {
 
     ghost is_infallible = { λ _. ⊤ };
 
+    /// The same generation. Never fails.
     fn clone(&self) -> Result<Self, AllocError> {
         Ok(*self)
     }
 }
 
 impl Generation {
-    /// The generation of the handle with this word.
+    /// The generation in this word.
     #[inline(always)]
     pub(crate) fn of(word: Word) -> Generation
         ensures { result ≡ word.generation }

@@ -49,7 +49,8 @@ impl Remembered {
         }
     }
 
-    /// The key of the handle's row, read from the arena only if the row is unknown. O(1).
+    /// The key of the row that the handle reads, or 0 if it reads none. `self` must be what is remembered of that
+    /// row. The arena is read only if the row is unknown. O(1).
     pub fn key_of(&self, handle: Handle<Row>, arena: &Arena<Row>) -> Key
         requires { Agrees arena.now.cells handle self.now }
         ensures { result.0 ≡ key_at arena.now.cells handle }
@@ -80,7 +81,8 @@ impl Remembered {
         }
     }
 
-    /// The key and payload of the handle's row, read from the arena only if the row is unknown. O(1).
+    /// The key and payload of the row that the handle reads, both 0 if it reads none. `self` must be what is
+    /// remembered of that row. The arena is read only if the row is unknown. O(1).
     pub fn or_read(self, arena: &Arena<Row>, handle: Handle<Row>) -> Remembered
         requires { Agrees arena.now.cells handle self }
         ensures { result ≡ memory_at arena.now.cells handle }
@@ -91,7 +93,7 @@ impl Remembered {
         self
     }
 
-    /// Remembers this key and this payload. O(1).
+    /// Remembers this key and this payload. The row counts as unknown if the key is `UNKNOWN_KEY`. O(1).
     #[inline]
     pub fn new(key: KeyNumber, payload: Payload) -> Remembered
         ensures { result ≡ record { key = key; payload = payload } }
@@ -107,7 +109,7 @@ impl Remembered {
         self.key
     }
 
-    /// The row's payload, or 0 if the row is unknown. O(1).
+    /// The remembered payload. It has no meaning if the row is unknown. O(1).
     #[inline]
     pub fn payload(&self) -> Payload
         ensures { result ≡ self.now.payload }

@@ -43,6 +43,7 @@ impl Clone for Word {
 
     ghost is_infallible = { λ _. ⊤ };
 
+    /// The same word. Never fails.
     fn clone(&self) -> Result<Self, AllocError> {
         Ok(Word { bits: self.bits })
     }
@@ -53,6 +54,7 @@ impl PartialEq for Word {
 
     ghost laws = { Prim.search (comparing, rules) };
 
+    /// Whether both words have the same number and the same generation.
     fn eq(&self, other: &Self) -> bool {
         self.bits == other.bits
     }

@@ -92,6 +92,7 @@ pub enum ArgumentsError {
 }
 
 impl From<AllocError> for ArgumentsError {
+    /// The error that no memory was found.
     fn from(error: AllocError) -> ArgumentsError {
         ArgumentsError::Refused(Refusal::from(error))
     }
@@ -129,7 +130,7 @@ const WORKERS: Choice = Choice(
     "How many workers, each on its own thread: 1 to 64",
 );
 
-/// The options of an opening but its policy.
+/// The options of an opening, except its policy.
 static OPENING_CHOICES: [Choice; 4] = [
     Choice(
         "limit",
@@ -149,18 +150,21 @@ static OPENING_CHOICES: [Choice; 4] = [
     Choice(
         "auto-checkpoint",
         Value::Flag,
-        "Makes a checkpoint when a history is full",
+        "Checkpoints a full history; merges if no cell is free",
     ),
 ];
 
+/// The option `--audit` of a batch and of a server.
 const AUDIT: Choice = Choice(
     "audit",
     Value::Flag,
     "Keeps a receipt of each reply, compared at the end",
 );
 
+/// The options of a batch besides those of its opening.
 static BATCH_CHOICES: [Choice; 2] = [WORKERS, AUDIT];
 
+/// The options of a server besides those of its opening.
 static SERVER_CHOICES: [Choice; 9] = [
     Choice(
         "port",
@@ -205,13 +209,14 @@ static SERVER_CHOICES: [Choice; 9] = [
     AUDIT,
 ];
 
+/// The option `--words` of the program.
 static WORDS_CHOICE: Choice = Choice(
     "words",
     Value::Flag,
     "Explains errors in words, on standard error",
 );
 
-/// The parser's option for a choice.
+/// The parser's option for a choice: a flag, or an option with a number, which may be required.
 fn option_of<'a>(alloc: Global, choice: &Choice) -> Arg<'a> {
     let Choice(name, value, help) = choice;
     let option = Arg::new(alloc, name).long(name).help(help);
@@ -230,7 +235,7 @@ fn number_option<'a>(option: Arg<'a>, word: &'a str) -> Arg<'a> {
 /// A command that is built, or the error that no memory was found for it.
 type Built<'a> = Result<Command<'a>, AllocError>;
 
-/// Adds an option to a command that is being built.
+/// Adds an option to a command that is being built. An error if `built` is one, or if no memory is found.
 fn with_option<'a>(built: Built<'a>, option: Arg<'a>) -> Built<'a> {
     match built {
         Ok(command) => command.arg(option),
@@ -241,7 +246,8 @@ fn with_option<'a>(built: Built<'a>, option: Arg<'a>) -> Built<'a> {
     }
 }
 
-/// Adds these options to a command that is being built.
+/// Adds the options for these choices to a command that is being built. An error if `built` is one, or if no memory is
+/// found.
 fn with_options<'a>(alloc: Global, built: Built<'a>, choices: &[Choice]) -> Built<'a> {
     let mut built = built;
     'choices: for choice in choices {
@@ -250,7 +256,8 @@ fn with_options<'a>(alloc: Global, built: Built<'a>, choices: &[Choice]) -> Buil
     built
 }
 
-/// Adds a subcommand to a command that is being built.
+/// Adds a subcommand to a command that is being built. An error if `built` or `subcommand` is one, or if no memory is
+/// found.
 fn with_subcommand<'a>(built: Built<'a>, subcommand: Built<'a>) -> Built<'a> {
     match built {
         Ok(command) => joined(command, subcommand),
@@ -261,7 +268,7 @@ fn with_subcommand<'a>(built: Built<'a>, subcommand: Built<'a>) -> Built<'a> {
     }
 }
 
-/// Adds a subcommand that is being built to a command.
+/// Adds a subcommand that is being built to a command. An error if `subcommand` is one, or if no memory is found.
 fn joined<'a>(command: Command<'a>, subcommand: Built<'a>) -> Built<'a> {
     match subcommand {
         Ok(subcommand) => command.subcommand(subcommand),
@@ -272,7 +279,7 @@ fn joined<'a>(command: Command<'a>, subcommand: Built<'a>) -> Built<'a> {
     }
 }
 
-/// The option `--policy`.
+/// The option `--policy`, whose value is one of `POLICIES`.
 fn policy_option<'a>(alloc: Global) -> Arg<'a> {
     Arg::new(alloc, "policy")
         .long("policy")
@@ -282,7 +289,7 @@ fn policy_option<'a>(alloc: Global) -> Arg<'a> {
         .help("complete, gradual, ripple or auto [default: ripple]")
 }
 
-/// The values that belong to no option: the splits.
+/// The values that belong to no option: the splits, any number of numbers of 64 bits.
 fn split_values<'a>(alloc: Global) -> Arg<'a> {
     Arg::new(alloc, "splits")
         .value_name("SPLIT")
@@ -292,14 +299,22 @@ fn split_values<'a>(alloc: Global) -> Arg<'a> {
         .help("First keys of partitions: rising, 1 to 2^64 - 1; 63 at most")
 }
 
-/// A subcommand with the options and splits with which a table is opened. Its help ends with the text `behind`.
-fn opening_command<'a>(alloc: Global, name: &'a str, about: &'a str, behind: &'a str) -> Built<'a> {
-    let bare = Command::new(alloc, name).about(about).after_help(behind);
+/// A subcommand with the options and splits with which a table is opened. Its help ends with the text `after_help`.
+fn opening_command<'a>(
+    alloc: Global,
+    name: &'a str,
+    about: &'a str,
+    after_help: &'a str,
+) -> Built<'a> {
+    let bare = Command::new(alloc, name)
+        .about(about)
+        .after_help(after_help);
     let limited = with_options(alloc, Ok(bare), OPENING_CHOICES.as_slice());
     let merging = with_option(limited, policy_option(alloc));
     with_option(merging, split_values(alloc))
 }
 
+/// The subcommand `script`.
 fn script_command<'a>(alloc: Global) -> Built<'a> {
     opening_command(
         alloc,
@@ -309,6 +324,7 @@ fn script_command<'a>(alloc: Global) -> Built<'a> {
     )
 }
 
+/// The subcommand `batch`, with the options of an opening and of a batch.
 fn batch_command<'a>(alloc: Global) -> Built<'a> {
     let opening = opening_command(
         alloc,
@@ -319,6 +335,7 @@ fn batch_command<'a>(alloc: Global) -> Built<'a> {
     with_options(alloc, opening, BATCH_CHOICES.as_slice())
 }
 
+/// The subcommand `serve`, with the options of an opening and of a server.
 fn serve_command<'a>(alloc: Global) -> Built<'a> {
     let opening = opening_command(
         alloc,
@@ -329,6 +346,7 @@ fn serve_command<'a>(alloc: Global) -> Built<'a> {
     with_options(alloc, opening, SERVER_CHOICES.as_slice())
 }
 
+/// The subcommand `csv`.
 fn csv_command<'a>(alloc: Global) -> Built<'a> {
     opening_command(
         alloc,
@@ -383,7 +401,9 @@ fn splits_of(alloc: Global, matches: &ArgMatches<'_>) -> Result<Vec<Bound>, Argu
     Ok(splits)
 }
 
-/// The limits on the command line. The defaults are `DEFAULT_CELLS` and the greatest of the other limits.
+/// The limits on the command line; their sizes aren't checked here. Where one isn't given it is `DEFAULT_CELLS` cells,
+/// a history of `GREATEST_LIMIT` entries, or a life of `GREATEST_LIFE` commands. Upkeep is `Automatic` with
+/// `--auto-checkpoint`, else `OnRequest`.
 fn limits_of(matches: &ArgMatches<'_>) -> Limits {
     let greatest = Limits::of_history(GREATEST_LIMIT);
     Limits {
@@ -394,7 +414,7 @@ fn limits_of(matches: &ArgMatches<'_>) -> Limits {
     }
 }
 
-/// Whether upkeep is automatic or on request.
+/// The upkeep on the command line: automatic with `--auto-checkpoint`, else on request.
 fn upkeep_of(matches: &ArgMatches<'_>) -> Upkeep {
     if matches.get_flag("auto-checkpoint") {
         Upkeep::Automatic
@@ -403,6 +423,7 @@ fn upkeep_of(matches: &ArgMatches<'_>) -> Upkeep {
     }
 }
 
+/// The options of an opening. An error if a split isn't a number of 64 bits, or if no memory is found.
 fn opening_of(alloc: Global, matches: &ArgMatches<'_>) -> Result<TableOptions, ArgumentsError> {
     Ok(TableOptions {
         splits: splits_of(alloc, matches)?,
@@ -411,12 +432,12 @@ fn opening_of(alloc: Global, matches: &ArgMatches<'_>) -> Result<TableOptions, A
     })
 }
 
-/// The number of a required option. An error if it is missing or isn't a number of 64 bits.
+/// The number of the required option `name`. An error if it is missing or isn't a number of 64 bits.
 fn number_of(matches: &ArgMatches<'_>, name: &str) -> Result<u64, ArgumentsError> {
     matches.get_one::<u64>(name).ok_or(ArgumentsError::Bad)
 }
 
-/// The port, if it is 1 to 65535.
+/// The port on the command line. An error unless it is 1 to 65535.
 fn port_of(matches: &ArgMatches<'_>) -> Result<u16, ArgumentsError> {
     match u16::try_from(number_of(matches, "port")?) {
         Ok(port) if port > 0 => Ok(port),
@@ -424,7 +445,7 @@ fn port_of(matches: &ArgMatches<'_>) -> Result<u16, ArgumentsError> {
     }
 }
 
-/// The options of a batch.
+/// The options of a batch. An error if the number of workers is missing, or as `opening_of` says.
 fn batch_options_of(
     alloc: Global,
     matches: &ArgMatches<'_>,
@@ -446,7 +467,8 @@ fn sessions_of(matches: &ArgMatches<'_>) -> Result<Option<u64>, ArgumentsError> 
     Ok(sessions)
 }
 
-/// The number of clients that may be connected at once, if it is 1 to `MOST_CLIENTS`.
+/// The number of clients that may be connected at once, `DEFAULT_CLIENTS` by default. An error unless it is 1 to
+/// `MOST_CLIENTS`.
 fn clients_of(matches: &ArgMatches<'_>) -> Result<u64, ArgumentsError> {
     match matches.get_one::<u64>("clients").unwrap_or(DEFAULT_CLIENTS) {
         clients if clients > 0 && clients <= MOST_CLIENTS => Ok(clients),
@@ -454,13 +476,14 @@ fn clients_of(matches: &ArgMatches<'_>) -> Result<u64, ArgumentsError> {
     }
 }
 
-/// How many seconds a server waits for busy connections, 0 to 2^32 - 1.
+/// How many seconds a server waits at its end for busy connections, `DEFAULT_DRAIN` by default. An error if it is
+/// above 2^32 - 1.
 fn drain_of(matches: &ArgMatches<'_>) -> Result<u32, ArgumentsError> {
     let seconds = matches.get_one::<u64>("drain").unwrap_or(DEFAULT_DRAIN);
     u32::try_from(seconds).map_err(|_| ArgumentsError::Bad)
 }
 
-/// How many seconds a connection may wait for its client, 1 to 2^32 - 1, or `None` for any time.
+/// How many seconds a connection may wait for its client, or `None` for any time. An error unless it is 1 to 2^32 - 1.
 fn idle_of(matches: &ArgMatches<'_>) -> Result<Option<u32>, ArgumentsError> {
     let Some(seconds) = matches.get_one::<u64>("idle") else {
         return Ok(None);
@@ -471,7 +494,8 @@ fn idle_of(matches: &ArgMatches<'_>) -> Result<Option<u32>, ArgumentsError> {
     }
 }
 
-/// The options of a server. An error if one is missing or out of range.
+/// The options of a server. An error if the port is missing, if not exactly one of `--sessions` and `--until-eof` is
+/// given, if the port, `--clients`, `--idle` or `--drain` is out of range, or as `opening_of` says.
 fn service_of(alloc: Global, matches: &ArgMatches<'_>) -> Result<ServeOptions, ArgumentsError> {
     Ok(ServeOptions {
         port: port_of(matches)?,
@@ -486,23 +510,28 @@ fn service_of(alloc: Global, matches: &ArgMatches<'_>) -> Result<ServeOptions, A
     })
 }
 
+/// The request of the subcommand `script`. An error as `opening_of` says.
 fn script_of(alloc: Global, matches: &ArgMatches<'_>) -> Result<Request, ArgumentsError> {
     Ok(Request::Script(opening_of(alloc, matches)?))
 }
 
+/// The request of the subcommand `batch`. An error as `batch_options_of` says.
 fn batch_of(alloc: Global, matches: &ArgMatches<'_>) -> Result<Request, ArgumentsError> {
     Ok(Request::Batch(batch_options_of(alloc, matches)?))
 }
 
+/// The request of the subcommand `serve`. An error as `service_of` says.
 fn serve_of(alloc: Global, matches: &ArgMatches<'_>) -> Result<Request, ArgumentsError> {
     Ok(Request::Serve(service_of(alloc, matches)?))
 }
 
+/// The request of the subcommand `csv`. An error as `opening_of` says.
 fn csv_of(alloc: Global, matches: &ArgMatches<'_>) -> Result<Request, ArgumentsError> {
     Ok(Request::Csv(opening_of(alloc, matches)?))
 }
 
-/// The request of a parsed command line. An error if a value is missing or out of range.
+/// The request of a command line that the parser accepted. An error if a value is missing or out of range, or if no
+/// memory is found.
 fn request_of(alloc: Global, matches: &ArgMatches<'_>) -> Result<Request, ArgumentsError> {
     let Some((name, found)) = matches.subcommand() else {
         return Err(ArgumentsError::Bad);
@@ -516,13 +545,13 @@ fn request_of(alloc: Global, matches: &ArgMatches<'_>) -> Result<Request, Argume
     }
 }
 
-/// Whether a command line has the option that explains errors.
+/// Whether these words contain `--words`, the option that explains errors. O(words).
 pub fn asks_for_words(words: &[String]) -> bool {
     words.iter().any(|word| word.as_str() == WORDS)
 }
 
-/// The outcome of a command line without matches: the text of the help or the version, if it was requested, or the
-/// error, which is explained if `in_words`.
+/// The outcome of a command line for which the parser returned this error: the text of the help or of the version, if
+/// it was requested; `Refused` if no memory was found; else `Explained` if `in_words`, or `Bad`.
 fn unmatched(
     alloc: Global,
     error: &clap::Error,
@@ -538,7 +567,8 @@ fn unmatched(
     }
 }
 
-/// An error with the parser's own text, without the line feeds at its end.
+/// The error `Explained` with the parser's own text, without the white space at its end. An error if no memory is
+/// found.
 fn explained(alloc: Global, error: &clap::Error) -> Result<ArgumentsError, AllocError> {
     let text = error.to_string(alloc)?;
     let line = String::from_str(alloc, text.trim_end())?;
@@ -546,7 +576,9 @@ fn explained(alloc: Global, error: &clap::Error) -> Result<ArgumentsError, Alloc
     Ok(ArgumentsError::Explained(line))
 }
 
-/// Parses the words of a command line, the first of which is the program's name.
+/// Parses the words of a command line, the first of which is the program's name, and returns its request. An error if
+/// the words aren't a valid command line, or if no memory is found. The parser's own errors are explained if `--words`
+/// is among the words. Takes memory for the parser, which is freed, and for the request.
 pub fn read(alloc: Global, words: &[String]) -> Result<Request, ArgumentsError> {
     match command_line(alloc)?.try_get_matches_from(words) {
         Ok(matches) => {

@@ -16,7 +16,7 @@ pub fn policy_of(name: &str) -> Option<Policy> {
     }
 }
 
-/// Parses each word as a number. An error if one isn't a number of the type `N`.
+/// Parses each word as a number. An error if a word isn't a number of the type `N`, or if no memory is found.
 pub fn numbers_of<N: FromStr<Err = ParseIntError> + Drop>(
     alloc: Global,
     words: &[&str],

@@ -25,14 +25,15 @@ use crack_row::{Limits, Policy, Upkeep, Watched};
 use std::io;
 use std::io::BufWriter;
 
-/// Has the workers ask, and writes their replies and the histories.
+/// Carries out a plan, and writes the replies and the histories to standard output. An error if the run is refused.
 fn run_planned<R: BenchHost>(rt: &R, plan: Plan) -> anyhow::Result<()> {
     let mut writer = Watched::new(BufWriter::new(rt.alloc(), io::writer(rt))?);
     carry_out(rt, plan, &mut writer)?;
     Ok(())
 }
 
-/// Prints the histories for a policy and the other arguments.
+/// Prints the histories for a policy and six numbers: SEED, WORKERS, STATEMENTS, LIMIT, CELLS and LIFE. An error if
+/// the words aren't six numbers, or if the run is refused.
 fn run_numbered<R: BenchHost>(rt: &R, policy: Policy, words: &[&str]) -> anyhow::Result<()> {
     let numbers = numbers_of(rt.alloc(), words)?;
     let plan = match numbers.as_slice() {
@@ -57,7 +58,8 @@ fn run_numbered<R: BenchHost>(rt: &R, policy: Policy, words: &[&str]) -> anyhow:
     }
 }
 
-/// Prints the histories that the arguments ask for.
+/// Prints the histories for the seven arguments of `histories`. An error if there are more or fewer, if one isn't
+/// valid, or if the run is refused.
 pub fn run<R: BenchHost>(rt: &R, words: &[&str]) -> anyhow::Result<()> {
     let [seed, workers, statements, policy, limit, cells, life] = words else {
         return explained(None);

@@ -55,7 +55,8 @@ const ALL: &[&[&str]] = &[
     ],
 ];
 
-/// Runs what the arguments ask for.
+/// Runs the measurement that the arguments name, or prints histories. An error if the arguments name nothing, or if
+/// the run fails.
 fn run<R: BenchHost>(rt: &R, words: &[&str]) -> anyhow::Result<()> {
     match words {
         ["workers", "unaudited", name, rest @ ..] => workers::run(rt, false, name, rest),
@@ -67,7 +68,7 @@ fn run<R: BenchHost>(rt: &R, words: &[&str]) -> anyhow::Result<()> {
     }
 }
 
-/// Carries out the runs of `ALL`, until one fails.
+/// Carries out the runs of `ALL`, in order. Stops with the first error.
 fn run_all<R: BenchHost>(rt: &R) -> anyhow::Result<()> {
     'runs: for words in ALL {
         run(rt, words)?;
@@ -75,6 +76,7 @@ fn run_all<R: BenchHost>(rt: &R) -> anyhow::Result<()> {
     Ok(())
 }
 
+/// Runs what the command line asks for: all of `ALL`, or one run. An error if a run fails.
 fn main(rt: HostRuntime) -> anyhow::Result<()> {
     let words: Vec<String> = env::args(&rt)?.collect(rt.alloc())?;
     let mut texts = Vec::new(rt.alloc());

@@ -30,34 +30,37 @@ pub enum Failure {
 pub type Outcome = Result<(), Failure>;
 
 impl From<Refusal> for Failure {
+    /// Always `Failure::Refused`.
     fn from(refusal: Refusal) -> Failure {
         Failure::Refused(refusal)
     }
 }
 
 impl From<io::Error> for Failure {
+    /// Always `Failure::Unwritten`.
     fn from(error: io::Error) -> Failure {
         Failure::Unwritten(error)
     }
 }
 
-/// Writes how long a part took that began at `since`, under this name, to standard error. Returns the time at which
-/// the next part begins.
+/// Writes to standard error the name of a part of a measurement, and how many nanoseconds it took since `since`.
+/// Returns the time at which the next part begins. An error if the clock can't be read or the write fails.
 pub fn report<R: BenchOutput>(rt: &R, name: &str, since: Instant) -> io::Result<Instant> {
     let nanoseconds = since.elapsed(rt)?.as_nanos();
     eprintln!(rt; "{name} {nanoseconds}")?;
     Instant::now(rt)
 }
 
-/// Turns a measurement's outcome into the program's. `None` means that the arguments name no measurement.
+/// Turns a measurement's outcome into the program's: a failure becomes an error. `None` means that the arguments name
+/// no measurement, and becomes an error that lists the names.
 pub fn explained(outcome: Option<Outcome>) -> anyhow::Result<()> {
     match outcome {
         Some(Ok(())) => Ok(()),
         Some(Err(Failure::Refused(refusal))) => Err(refusal.into()),
         Some(Err(Failure::Unwritten(error))) => Err(error.into()),
         None => Err(anyhow::anyhow!(
-            "arena, column, counts, sums, each, rising, narrow, cold, pass, updates, ageing, merge, pulls, fold, \
-            workers, histories or all, with their words"
+            "arena, column, counts, sums, each, rising, narrow, cold, pass, updates, ageing, climb, merge, pulls, \
+            fold, workers, histories or all, with their words"
         )),
     }
 }

@@ -19,8 +19,8 @@ use crate::single::partition::Sizes;
 use crate::single::steps::kind_of;
 use crack_row::Policy;
 
-/// Carries out a partition's measurement with this name. `None` if there is none, or if it takes more or fewer
-/// numbers.
+/// Carries out the measurement of a partition with this name, with this many rows and with these further numbers.
+/// `None` if there is no such measurement, or if it takes another count of numbers.
 fn measured_partition<R: BenchOutput>(
     rt: &R,
     name: &str,
@@ -40,7 +40,8 @@ fn measured_partition<R: BenchOutput>(
     Some(steps::measure(rt, kind, policy, sizes))
 }
 
-/// Carries out the measurement with this name, policy and numbers. `None` if there is none.
+/// Carries out the measurement with this name, policy and numbers. `None` if there is no such measurement, or if it
+/// takes other arguments.
 fn measured<R: BenchOutput>(
     rt: &R,
     name: &str,
@@ -55,7 +56,8 @@ fn measured<R: BenchOutput>(
     }
 }
 
-/// Carries out the measurement with this name and policy; the arguments are its numbers.
+/// Carries out the measurement with this name and policy; `words` are its numbers. An error if there is no such
+/// measurement, or if it fails.
 pub fn run<R: BenchOutput>(
     rt: &R,
     name: &str,

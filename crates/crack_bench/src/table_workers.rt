@@ -10,8 +10,8 @@ use std::{mem, thread};
 
 /// What answers commands: a worker of a table, or partitions that are asked directly.
 pub trait AnswersCommands {
-    /// Executes a command on one partition. Refused with `NoSuchPartition` if there is no such partition, and as the
-    /// partition or the table refuses it.
+    /// Executes a command on partition `part`. Refused with `NoSuchPartition` if there is no such partition, and
+    /// otherwise as the partition or the table refuses the command.
     fn ask(&mut self, part: u32, command: Command) -> Result<Reply, Refusal>;
 }
 
@@ -27,14 +27,14 @@ pub fn number_of(reply: &Reply) -> u64 {
 
 /// A worker of a table.
 pub trait Works: AnswersCommands {
-    /// Makes a checkpoint of a partition. Returns how many commands the partition had accepted since its previous
-    /// one.
+    /// Makes a checkpoint of partition `part`. Returns how many commands the partition had accepted since its previous
+    /// checkpoint. Refused as `Table::checkpoint` is.
     fn checkpoint(&mut self, part: u32) -> Result<u64, Refusal>;
 }
 
-/// The questions of a worker.
+/// Where the questions of a worker come from.
 pub trait Questions {
-    /// Has the worker ask the next `count` questions.
+    /// Has the worker ask the next `count` questions, or take the next `count` steps if a step has several questions.
     fn ask_next<A: Works>(&mut self, worker: &mut A, count: u64);
 }
 
@@ -49,6 +49,7 @@ pub struct TableWorker<'a, R: Wait, G: Gate, J: Naming> {
 }
 
 impl<'a, R: Wait, G: Gate, J: Naming> AnswersCommands for TableWorker<'a, R, G, J> {
+    /// Executes the command as `Table::ask` does.
     fn ask(&mut self, part: u32, command: Command) -> Result<Reply, Refusal> {
         let worker = &mut self.worker;
         self.table
@@ -57,6 +58,7 @@ impl<'a, R: Wait, G: Gate, J: Naming> AnswersCommands for TableWorker<'a, R, G, 
 }
 
 impl<'a, R: Wait, G: Gate, J: Naming> Works for TableWorker<'a, R, G, J> {
+    /// Makes a checkpoint as `Table::checkpoint` does.
     fn checkpoint(&mut self, part: u32) -> Result<u64, Refusal> {
         self.table.checkpoint(self.rt, part)
     }
@@ -78,8 +80,8 @@ impl<A: Works, Q: Questions> Hand<A, Q> {
     }
 }
 
-/// Has each worker ask its next `count` questions on a thread of its own. If no memory is found, `hands` is left
-/// empty.
+/// Has each worker of `hands` ask its next `count` questions, on a thread of its own if one can be started. Refused
+/// with `OutOfMemory` if no memory is found; then `hands` is left empty.
 pub fn work_on_threads<
     R: Threads + Wait + Sync,
     A: Works + Send + Drop,
@@ -90,8 +92,8 @@ pub fn work_on_threads<
     Ok(())
 }
 
-/// Moves the workers to `left`, and drops their questions. Refused with `OutOfMemory` if no memory is found for the
-/// list.
+/// Moves the workers to `left`, and drops their questions. Refused with `OutOfMemory` if no memory is found for
+/// `left`.
 pub fn leave<R: Wait, G: Gate, J: Naming, Q: Drop>(
     hands: Vec<Hand<TableWorker<R, G, J>, Q>>,
     left: &mut Vec<Worker<J>>,

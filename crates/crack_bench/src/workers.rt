@@ -53,7 +53,8 @@ fn run_of(name: &str, numbers: &[u32]) -> Option<MeasuredRun> {
     })
 }
 
-/// Carries out the measurement with this name and these numbers. `None` if there is none.
+/// Carries out the measurement with this name and these numbers, over a table with an audit if `is_audited`. `None` if
+/// there is no such measurement, or if it takes another count of numbers.
 fn measured<R: BenchHost>(
     rt: &R,
     is_audited: bool,
@@ -66,7 +67,8 @@ fn measured<R: BenchHost>(
     }
 }
 
-/// Carries out the measurement with this name, over a table with an audit or without; the arguments are its numbers.
+/// Carries out the measurement with this name, over a table with an audit if `is_audited`; `words` are its numbers. An
+/// error if there is no such measurement, or if it fails.
 pub fn run<R: BenchHost>(
     rt: &R,
     is_audited: bool,

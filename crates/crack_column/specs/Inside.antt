@@ -1,4 +1,6 @@
 -- What private clauses alone cite.
+-- What cracks, sifts and drains do to tags. The tag at a place has a handle, and the key and payload that are
+-- remembered of its row. The row is unknown if the tag's key is `unknown`.
 use Rattle.std.specs.Prelude.{◌≡◌, ℕ, ◌+◌, ◌-◌, ◌≤◌, List, ◌∷◌, ◌++◌, length, map, take, drop, All, cond, nat_lt, Option, slice_index_or, slice_set}
 use Rattle.std.specs.List.{between}
 use Rattle.std.specs.List.Sorted.{IsPermutation}
@@ -16,11 +18,12 @@ use Rattle.crack_column.specs.Drains.{drained_once, drawn_once, is_under, doomed
 use Rattle.crack_column.specs.declared.draining.Doomed.{Doomed}
 use Rattle.crack_row.specs.declared.InnerBound.{InnerBound}
 
--- what the tag remembers agrees with its handle's row
+-- the tag's row is unknown, or the tag has the key and the payload of the row that its handle reads in these cells,
+-- both 0 if the handle reads none
 abbrev pub KnowsRow : List (Cell Row) → Tag → Type 0
 KnowsRow cells t = Agrees cells (tag_handle t) (memory_of t)
 
--- the tag has the key and the payload of its handle's row
+-- the tag has the key and the payload of the row that its handle reads in these cells, both 0 if the handle reads none
 abbrev pub Read : List (Cell Row) → Tag → Type 0
 Read cells t = memory_of t ≡ memory_at cells (tag_handle t)
 
@@ -28,7 +31,7 @@ Read cells t = memory_of t ≡ memory_at cells (tag_handle t)
 abbrev pub tag_for : Handle → Memory → Tag
 tag_for h m = record { key = m.key; payload = m.payload; handle = h }
 
--- the tag without what it remembers
+-- the tag without what it remembers: its row is unknown
 abbrev pub forgotten : Tag → Tag
 forgotten t = record t { key = unknown; payload = no_payload }
 
@@ -36,22 +39,23 @@ forgotten t = record t { key = unknown; payload = no_payload }
 abbrev pub no_tag : Tag
 no_tag = record { key = 0; payload = no_payload; handle = no_handle }
 
--- the tags with this one at the place, instead of the one there, or after the last one
+-- the tags after this one replaced the tag at the place, or was appended if the place is the number of tags
 abbrev pub tag_put_at : List Tag → ℕ → Tag → List Tag
 tag_put_at ts place t = take place ts ++ t ∷ drop (place + 1) ts
 
--- the tag at `low` moves into the gap, and the new tag takes its place
+-- the tags after the tag at the place `low` was copied to the place `gap`, and then `t` stored at `low`
 abbrev pub shifted : List Tag → ℕ → ℕ → Tag → List Tag
 shifted ts gap low t = slice_set (slice_set ts gap (slice_index_or ts low no_tag)) low t
 
--- the tag at `upper` moves into the gap, the tag at `place` moves to `upper`, and the new tag takes `place`
+-- the tags after that at `upper` was copied to `gap`, then that at `place` to `upper`, and `t` stored at `place`
 abbrev pub turned : List Tag → ℕ → ℕ → ℕ → Tag → List Tag
 turned ts gap upper place t =
     let filled = slice_set ts gap (slice_index_or ts upper no_tag) in
     slice_set (slice_set filled upper (slice_index_or filled place no_tag)) place t
 
--- the tags from `from` up to `to` are reordered so that the bound divides them at `place`, and their rows are read,
--- `learned` of which were unknown; all other tags are unchanged
+-- a crack at `bound` turned `tags` into `tags'`. The unknown rows of the tags at `from..to` were read from `cells`,
+-- and `learned` of them became known. These tags were reordered: those with keys below the bound come before `place`,
+-- the others from it on. All other tags are unchanged
 pub record TurnsTags (cells : List (Cell Row)) (bound from to : ℕ) (tags tags' : List Tag) (place learned : ℕ) : Type 0 where
   pub stretch : List Tag
   pub are : tags' ≡ take from tags ++ stretch ++ drop to tags
@@ -70,15 +74,17 @@ label_of t = record { key = t.key; handle = t.handle }
 abbrev pub label_handle : Label → Handle
 label_handle l = l.handle
 
--- the tags from `from` up to `to` were sifted through those from `start` up to `from`: `below` of them are below
--- the bound, and other tags moved `moved` times
+-- a sift turned `tags` into `tags'`: the tags at `from..to` were sifted through the piece at `start..from`, as in
+-- Sifts.antt. The sifted tags with keys below the bound, `below` in number, come first, from `start` on. After them
+-- comes the piece, as in `queued`; its tags moved `moved` times. All other tags are unchanged
 pub record SiftsTags (bound start from to : ℕ) (tags tags' : List Tag) (below moved : ℕ) : Type 0 where
   pub are : tags' ≡ take start tags ++ (below_bound remembered_key bound (between from to tags) ++ queued remembered_key bound (between from to tags) (between start from tags)) ++ drop to tags
   pub below_is : below ≡ length (below_bound remembered_key bound (between from to tags))
   pub moved_is : moved ≡ made_way remembered_key bound (between from to tags) (between start from tags)
 
--- the piece from `start` up to `end` became the piece from `start'` up to `end'` by the pull of one doomed row,
--- which moved `pulled` of its rows
+-- the pull of the doomed row `d` changed a piece with the bounds `low` and `high` (none for the last piece), as in
+-- `drained_once`. The piece was at `start..end` of `handles`, and is at `start'..end'` of `handles'`; `pulled` of its
+-- rows moved. It begins one place earlier if the key of `d` is below `low`, otherwise where it began
 pub record DrainsOnce (low : ℕ) (high : Option InnerBound) (d : Doomed) (start end : ℕ) (handles handles' : List Handle) (start' end' pulled : ℕ) : Type 0 where
   pub piece : between start' end' handles' ≡ drained_once doomed_key doomed_handle low (λ e. is_under high e.key) d (between start end handles)
   pub turned : start' + cond (nat_lt d.key low) 1 0 ≡ start

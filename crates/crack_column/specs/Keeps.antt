@@ -1,11 +1,11 @@
 -- What private clauses alone cite.
--- The invariants of a column's tags.
+-- The invariants of a column's tags. A tag has a handle, and the key and payload that are remembered of its row.
 use Rattle.std.specs.Prelude.{◌≡◌, ℕ, ◌+◌, ◌<◌, ◌≤◌, ◌^◌, List, length, map, take, [], ◌∷◌}
 use Rattle.crack_arena.specs.Arena.{times}
 use Rattle.crack_arena.specs.Rows.{unknown}
 use Rattle.crack_column.specs.declared.tag.Tag.{Tag}
 
--- the key that a tag remembers
+-- the key that a tag remembers, or `unknown` if its row is unknown
 abbrev pub remembered_key : Tag → ℕ
 remembered_key t = t.key
 
@@ -13,14 +13,14 @@ remembered_key t = t.key
 abbrev pub unread_in : List Tag → ℕ
 unread_in tags = times unknown (map remembered_key tags)
 
--- the first `len` tags are the column's, and `unread` of them have unknown rows
+-- of the stored tags `tags`, at most 2^32, the first `len` are the column's; `unread` of these have unknown rows
 pub record IsSoundColumn (tags : List Tag) (len unread : ℕ) : Type 0 where
   pub within : len ≤ length tags
   pub few : length tags ≤ 2 ^ 32
   pub counted : unread_in (take len tags) ≡ unread
 
--- at least one tag is stored after the column's `len` tags; of the column's tags and the one in hand, `unread`
--- have unknown rows
+-- `tags` are the stored tags, at most 2^32; the first `len` are the column's, and there is at least one more. `hand`
+-- is the tag in hand. Of the column's tags and `hand`, `unread` have unknown rows
 pub record IsHeld (tags : List Tag) (len unread : ℕ) (hand : Tag) : Type 0 where
   pub some : len < length tags
   pub few : length tags ≤ 2 ^ 32

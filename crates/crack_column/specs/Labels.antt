@@ -8,12 +8,12 @@ use Rattle.crack_column.specs.declared.tag.Tag.{Tag}
 abbrev pub tag_of : Label → Payload → Tag
 tag_of l payload = record { key = l.key; payload = payload; handle = l.handle }
 
--- the tags of labels and payloads, paired place by place
+-- the tags of labels and payloads, paired place by place, as far as there are both
 abbrev pub tags_of : List Label → List Payload → List Tag
 tags_of (l ∷ labels) (payload ∷ payloads) = tag_of l payload ∷ tags_of labels payloads
 tags_of _ _ = []
 
--- the tags, and how many of them fit in the memory that was taken
+-- a list of tags, and how many tags fit in the memory that was taken, these included
 pub record TagVector : Type 0 where
   pub items : List Tag
   pub capacity : ℕ

@@ -52,7 +52,7 @@ impl Model for CrackerColumn {
 }
 
 impl CrackerColumn {
-    /// Makes a column without handles. Takes no memory.
+    /// Makes a column without handles. O(1), takes no memory.
     pub fn new(alloc: Global) -> CrackerColumn
         ensures handles { result.handles ≡ [] }
         ensures remembered { result.remembered ≡ [] }
@@ -75,8 +75,9 @@ impl CrackerColumn {
         mem::replace(self, CrackerColumn::new(alloc))
     }
 
-    /// Takes over a list of rows, of which `unread` are unknown, with its memory. The column must have no handles;
-    /// what is aside is dropped. O(1), takes no memory.
+    /// Takes over a list of at most `MOST_PLACES` rows with its memory, instead of the column's own. `unread` is how
+    /// many of the rows are unknown. The column must have no handles; what is aside is dropped. O(1), takes no
+    /// memory.
     pub fn adopt(&mut self, rows: TagList, unread: usize)
         requires empty { self.old.handles ≡ [] }
         requires few { length rows.handles ≤ 2 ^ 32 }
@@ -121,15 +122,15 @@ impl CrackerColumn {
         self.at(place).slot()
     }
 
-    /// The first place of the handle, or `None` if it isn't in the column. O(n).
+    /// The first place of the handle, counted from 0, or `None` if it isn't in the column. O(places).
     pub fn place_of(&self, handle: Handle<Row>) -> Option<usize>
         ensures { MatchOption result (IsAbsent self.now.handles handle) (IsFirstAt self.now.handles handle) }
     {
         self.tags.find_between(0, self.len, handle)
     }
 
-    /// The first place of the handle in `from..to`, counted from the column's front, or `None` if it isn't there.
-    /// O(to - from).
+    /// The first place of the handle at the places `from..to`, or `None` if it isn't there. The place is counted from
+    /// the column's front. O(to - from).
     pub fn place_between(&self, from: usize, to: usize, handle: Handle<Row>) -> Option<usize>
         requires order { from ≤ to }
         requires within { to ≤ length self.now.handles }
@@ -157,8 +158,9 @@ impl CrackerColumn {
         self.tags.sum_between(from, to, self.unread, arena)
     }
 
-    /// Makes room for this many more handles. The handles of all cells of an arena fit. O(1), except for growth.
-    /// Refused with `OutOfMemory` if no memory is found; what this call had found is freed.
+    /// Makes room for this many more handles. There may be at most `MOST_PLACES` in total; the handles of all cells
+    /// of an arena always fit. O(1), except for growth. Refused with `OutOfMemory` if no memory is found; then memory
+    /// that this call took is freed.
     pub fn reserve(&mut self, additional: usize) -> Result<(), Refusal>
         requires { length self.old.handles + additional ≤ 2 ^ 32 }
         ensures same { self.new ≡ record self.old { room = self.new.room } }
@@ -172,7 +174,8 @@ impl CrackerColumn {
         self.tags.reserve(more)
     }
 
-    /// Appends the handle, whose row is unknown. There must be room. O(1).
+    /// Appends the handle, and remembers nothing about its row. A handle that was aside is dropped. There must be
+    /// room. O(1).
     pub fn append(&mut self, handle: Handle<Row>)
         requires { 0 < self.old.room }
         ensures after { self.new ≡ record {
@@ -186,7 +189,8 @@ impl CrackerColumn {
         self.append_remembered(handle, Remembered::nothing());
     }
 
-    /// Appends the handle, with what is remembered about its row. There must be room. O(1).
+    /// Appends the handle, with what is remembered about its row. A handle that was aside is dropped. There must be
+    /// room. O(1).
     pub fn append_remembered(&mut self, handle: Handle<Row>, remembered: Remembered)
         requires { 0 < self.old.room }
         ensures after { self.new ≡ record {
@@ -201,8 +205,8 @@ impl CrackerColumn {
         self.append_aside();
     }
 
-    /// Replaces the handle at the place, and what is remembered about its row. Returns the old handle and what was
-    /// remembered about its row. O(1).
+    /// Replaces the handle at the place, and what is remembered about its row, by `handle` and `remembered`. Returns
+    /// the old handle and what was remembered about its row. O(1).
     pub fn swap_in_remembered(
         &mut self,
         place: usize,
@@ -225,7 +229,7 @@ impl CrackerColumn {
         (replaced.handle, replaced.remembered())
     }
 
-    /// Removes the last handle, and returns it; `None` if there is none. O(1).
+    /// Removes the last handle, and returns it; `None` if there is none. The handle is also set aside. O(1).
     pub fn pop(&mut self) -> Option<Handle<Row>>
         ensures handles { MatchOption result
             ((self.old.handles ≡ []) × (self.new ≡ self.old))
@@ -241,8 +245,8 @@ impl CrackerColumn {
         }
     }
 
-    /// Removes the last handle, and returns it with what was remembered about its row; `None` if there is none.
-    /// O(1).
+    /// Removes the last handle, and returns it with what was remembered about its row; `None` if there is none. The
+    /// handle is also set aside. O(1).
     pub fn pop_remembered(&mut self) -> Option<(Handle<Row>, Remembered)>
         ensures handles { MatchOption result
             ((self.old.handles ≡ []) × (self.new ≡ self.old))
@@ -262,8 +266,8 @@ impl CrackerColumn {
         Some((self.aside(), self.aside_memory()))
     }
 
-    /// Sets the handle aside, with what is remembered about its row: stores it after the last place, outside the
-    /// column. There must be room. Drops a handle that was aside before. O(1).
+    /// Sets the handle aside, with what is remembered about its row: stores both after the last place, outside the
+    /// column. There must be room. A handle that was aside is dropped. O(1).
     pub fn set_aside(&mut self, handle: Handle<Row>, remembered: Remembered)
         requires { 0 < self.old.room }
         ensures { self.new ≡ with_aside (record { handle = handle; memory = remembered }) self.old }
@@ -271,7 +275,7 @@ impl CrackerColumn {
         self.tags.put(self.len, Tag::new(handle, remembered));
     }
 
-    /// Removes the last handle from the column, and sets it aside. O(1). Reads no row.
+    /// Removes the last handle from the column, which must not be empty, and sets it aside. O(1). Reads no row.
     pub fn pop_aside(&mut self)
         requires { 0 < length self.old.handles }
         ensures { self.new ≡ popped_aside self.old }
@@ -280,7 +284,8 @@ impl CrackerColumn {
         self.unread -= self.tags.get(self.len).unread();
     }
 
-    /// Appends the handle that is aside. O(1). Reads no row.
+    /// Appends the handle that is aside, with what is remembered about its row. There must be one. O(1). Reads no
+    /// row.
     pub fn append_aside(&mut self)
         requires { 0 < length self.old.aside }
         ensures after { self.new ≡ appended_aside self.old }
@@ -291,7 +296,8 @@ impl CrackerColumn {
         self.len += 1;
     }
 
-    /// Exchanges the handle that is aside with the one at the place. O(1).
+    /// Exchanges the handle that is aside with the one at the place, each with what is remembered about its row. A
+    /// handle must be aside. O(1). Reads no row.
     pub fn exchange(&mut self, place: usize)
         requires within { place < length self.old.handles }
         requires aside { 0 < length self.old.aside }
@@ -307,7 +313,7 @@ impl CrackerColumn {
         self.unread -= there.unread();
     }
 
-    /// The handle that is aside. O(1).
+    /// The handle that is aside. There must be one. O(1).
     pub fn aside(&self) -> Handle<Row>
         requires { 0 < length self.now.aside }
         ensures { result ≡ (first_aside self.now).handle }
@@ -315,7 +321,7 @@ impl CrackerColumn {
         self.tags.label(self.len).handle
     }
 
-    /// The slot of the handle that is aside. O(1).
+    /// The slot, or cell number, of the handle that is aside. There must be one. O(1).
     pub fn aside_slot(&self) -> u32
         requires { 0 < length self.now.aside }
         ensures { result ≡ (first_aside self.now).handle.slot }
@@ -323,7 +329,7 @@ impl CrackerColumn {
         self.aside().slot()
     }
 
-    /// What is remembered about the row of the handle that is aside. O(1).
+    /// What is remembered about the row of the handle that is aside. There must be one. O(1).
     pub fn aside_memory(&self) -> Remembered
         requires { 0 < length self.now.aside }
         ensures { result ≡ (first_aside self.now).memory }
@@ -341,7 +347,8 @@ impl CrackerColumn {
         self.tags.get(place).key(arena)
     }
 
-    /// The key of the row that is aside. O(1). The arena is read only if the row is unknown.
+    /// The key of the row of the handle that is aside. There must be one. O(1). The arena is read only if the row is
+    /// unknown.
     pub fn aside_key(&self, arena: &Arena<Row>) -> Key
         requires some { 0 < length self.now.aside }
         requires known { Agrees arena.now.cells (first_aside self.now).handle (first_aside self.now).memory }
@@ -350,9 +357,9 @@ impl CrackerColumn {
         self.tags.get(self.len).key(arena)
     }
 
-    /// Cracks in two: reorders the rows at the places `from..to` so that those below the bound come first, and
-    /// returns the place of the first other row. In place, without memory. O(to - from). Reads each unknown row
-    /// there from the arena, and remembers it.
+    /// Cracks in two: reorders the rows at the places `from..to` so that those below the bound come first. Returns
+    /// the place of the first row that isn't below it, or `to` if there is none. In place, without memory. O(to -
+    /// from). Reads each unknown row there from the arena, and remembers it.
     pub fn crack_two(
         &mut self,
         from: usize,
@@ -375,9 +382,10 @@ impl CrackerColumn {
         place
     }
 
-    /// Cracks in three: reorders the rows at the places `from..to` so that those below the low bound come first,
-    /// then those below the high one, and returns the places where the second and the third part begin. In place,
-    /// without memory, in one pass. O(to - from). Reads each unknown row there from the arena, and remembers it.
+    /// Cracks in three: reorders the rows at the places `from..to` so that those below `low` come first, then those
+    /// below `high`, and then the others. Returns the places where the second and the third part begin; a part
+    /// without rows begins where it ends. In place, without memory, in one pass. O(to - from). Reads each unknown row
+    /// there from the arena, and remembers it.
     pub fn crack_three(
         &mut self,
         from: usize,
@@ -407,11 +415,12 @@ impl CrackerColumn {
         places
     }
 
-    /// Sifts the rows at the places `from..to`, in order, through the piece before them, which begins at `start`: a
-    /// row below the bound is exchanged with the first row of the piece, any other row stays as its last. In the
-    /// end the rows below the bound come first. Returns how many there are, and how often rows of the piece moved.
-    /// The sifted rows must be known. In place, without memory. O(to - from). Reads no other row, and not the
-    /// arena.
+    /// Sifts the rows at the places `from..to`, in order, through the piece at the places `start..from`. If a row is
+    /// below the bound, it is exchanged with the piece's first row: the piece then begins one place later, and its
+    /// old first row is its last one. Any other row stays, and becomes the piece's last row. In the end the rows
+    /// below the bound come first, from `start` on. Returns how many they are, and how often a row of the piece
+    /// moved. The column must remember the key and payload of each sifted row. In place, without memory. O(to - from).
+    /// Reads no other row, and not the arena.
     pub fn sift(
         &mut self,
         start: usize,

@@ -18,12 +18,15 @@ pub struct Doomed {
 }
 
 impl CrackerColumn {
-    /// Does to the piece at the places `from..to` what the pulls of doomed rows, in order, do to it. For a doomed
-    /// row below `low`, the piece's low bound, the piece's last row moves before its first, into a gap of `gap`
-    /// places that lower pieces left. A doomed row of the piece, whose high bound is `high` (`None` for the last
-    /// piece), is replaced by the piece's last row. Afterwards the piece begins where the gap began, and the rows
-    /// pulled out of it follow its end. Returns the place of its end, and how often one of its rows moved. In
-    /// place, without memory. O(doomed rows), and O(to - from) for each doomed row of the piece. Reads neither
+    /// Does to the piece at the places `from..to` what the pulls of doomed rows do to it, in order. `low` is the
+    /// piece's low bound, and `high` its high bound, or `None` for the last piece. The `gap` places before the piece
+    /// have the rows that were pulled out of lower pieces: one for each doomed row below `low`. For a doomed row
+    /// below `low`, the piece's last row is exchanged with the row before the piece, and so becomes the piece's
+    /// first. A doomed row of the piece is exchanged with the piece's last row, and leaves the piece.
+    ///
+    /// Afterwards the piece begins where the gap began, and the places from its end up to `to` have the rows that
+    /// were pulled out of it and of lower pieces. Returns the place of its end, and how often one of its rows moved.
+    /// In place, without memory. O(doomed rows), and O(to - from) for each doomed row of the piece. Reads neither
     /// rows nor the arena.
     pub fn drain(
         &mut self,
@@ -57,8 +60,9 @@ impl CrackerColumn {
         (end, pulled)
     }
 
-    /// Does what `drain` does for one doomed row, to a piece at the places `start..end` after a gap that begins at
-    /// `first`. Returns where the piece then begins and ends, and how many of its rows moved: 0 or 1.
+    /// Does what `drain` does for one doomed row, to the piece at the places `start..end` with the bounds `low` and
+    /// `high`. The gap before the piece begins at `first`. Returns the places where the piece then begins and ends,
+    /// and how many of its rows moved: 0 or 1. O(end - start).
     fn drain_once(
         &mut self,
         first: usize,
@@ -103,7 +107,7 @@ impl CrackerColumn {
         }
     }
 
-    /// Exchanges the rows at two places. O(1).
+    /// Exchanges the handles at two places, each with what is remembered about its row. O(1). Reads no row.
     #[inline]
     pub fn swap(&mut self, one: usize, other: usize)
         requires one { one < length self.old.handles }
@@ -121,7 +125,7 @@ impl CrackerColumn {
     }
 }
 
-/// Whether a key is below the bound; true if there is no bound.
+/// Whether the key is below the bound; true if there is no bound.
 fn is_below(key: KeyNumber, bound: Option<InnerBound>) -> bool
     ensures { result ≡ is_under bound key }
 {

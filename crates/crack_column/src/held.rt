@@ -40,8 +40,8 @@ impl Model for HeldColumn {
 }
 
 impl CrackerColumn {
-    /// Takes the column, with its row aside in hand, and leaves a column without handles in its place. O(1), takes
-    /// no memory.
+    /// Takes the column, with its handle aside in hand, and leaves a column without handles in its place. A handle
+    /// must be aside. O(1), takes no memory.
     pub fn hold(&mut self) -> HeldColumn
         requires { 0 < length self.old.aside }
         ensures { result ≡ self.old }
@@ -58,7 +58,7 @@ impl CrackerColumn {
 }
 
 impl HeldColumn {
-    /// Returns the column, with the row in hand set aside. O(1).
+    /// Returns the column, with the handle in hand set aside. O(1).
     pub fn release(self) -> CrackerColumn
         ensures { result ≡ self }
     {
@@ -84,7 +84,7 @@ impl HeldColumn {
         self.len
     }
 
-    /// The slot of the handle in hand. O(1).
+    /// The slot, or cell number, of the handle in hand. O(1).
     #[inline(always)]
     pub fn slot(&self) -> u32
         ensures { result ≡ (first_aside self.now).handle.slot }
@@ -92,7 +92,7 @@ impl HeldColumn {
         self.hand.handle.slot()
     }
 
-    /// What is remembered about the row in hand. O(1).
+    /// What is remembered about the row of the handle in hand. O(1).
     #[inline(always)]
     pub fn memory(&self) -> Remembered
         ensures { result ≡ (first_aside self.now).memory }
@@ -100,8 +100,8 @@ impl HeldColumn {
         self.hand.remembered()
     }
 
-    /// Exchanges the handle in hand with the one at the place, as `CrackerColumn::exchange` does with the handle
-    /// aside. O(1).
+    /// Exchanges the handle in hand with the one at the place, each with what is remembered about its row. O(1).
+    /// Reads no row.
     #[inline(always)]
     pub fn exchange(&mut self, place: usize)
         requires { place < length self.old.handles }

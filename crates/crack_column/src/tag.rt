@@ -52,7 +52,7 @@ impl Tag {
         }
     }
 
-    /// What the tag remembers of its row.
+    /// The key and payload that the tag remembers of its row.
     pub(crate) fn remembered(&self) -> Remembered
         ensures { result ≡ memory_of self.now }
     {
@@ -88,7 +88,7 @@ impl Tag {
         Key::from_number(self.key)
     }
 
-    /// The amount that the row adds to a sum. The arena is read only if the row is unknown.
+    /// The amount that the row adds to a sum: its payload. The arena is read only if the row is unknown.
     fn amount(&self, arena: &Arena<Row>) -> i128
         requires { KnowsRow arena.now.cells self.now }
         ensures value { result ≡ amount_at arena.now.cells (tag_handle self.now) }
@@ -102,8 +102,9 @@ impl Tag {
     }
 }
 
-/// Reads the unknown rows of the tags, at most `unread`, and moves the tags below the bound to the front. Returns
-/// how many there are, and how many unknown rows became known.
+/// Reads the unknown rows of the tags from the arena, and moves the tags with keys below the bound to the front. The
+/// tags are given by their labels and their payloads. `unread` is at least the number of unknown rows. Returns how
+/// many tags have keys below the bound, and how many unknown rows became known. O(tags).
 pub(crate) fn crack(
     labels: &mut [Label],
     payloads: &mut [Payload],
@@ -128,9 +129,10 @@ pub(crate) fn crack(
     (divide(labels, payloads, bound.number()), learned)
 }
 
-/// Reads the unknown rows of the tags, at most `unread`, and moves the tags below the low bound to the front,
-/// followed by those below the high one. Returns how many are below each bound, and how many unknown rows became
-/// known.
+/// Reads the unknown rows of the tags from the arena, and moves the tags with keys below `low` to the front, followed
+/// by those below `high`. The tags are given by their labels and their payloads. `unread` is at least the number of
+/// unknown rows. Returns how many tags have keys below `low`, how many have keys below `high`, and how many unknown
+/// rows became known. O(tags).
 pub(crate) fn crack_three(
     labels: &mut [Label],
     payloads: &mut [Payload],
@@ -161,7 +163,8 @@ pub(crate) fn crack_three(
     (middle, upper, learned)
 }
 
-/// Reads each unknown row from the arena, and remembers it. Returns how many became known.
+/// Reads each unknown row of the tags from the arena, and remembers it. Returns how many rows became known: a row
+/// with the greatest key stays unknown. O(tags).
 fn learn(labels: &mut [Label], payloads: &mut [Payload], arena: &Arena<Row>) -> usize
     requires beside { length payloads.old ≡ length labels.old }
     requires known { All (KnowsRow arena.now.cells) (tags_of labels.old payloads.old) }
@@ -184,10 +187,12 @@ fn learn(labels: &mut [Label], payloads: &mut [Payload], arena: &Arena<Row>) -> 
     learned
 }
 
-/// Moves the keys below the bound to the front, and returns their number. The first tag is kept aside, and leaves a
-/// gap. Each step moves the first tag at or above the bound into the gap, and the next tag to its place, so that no
-/// branch depends on a key. Exchanging the two tags instead costs a quarter more. The key is read before its label:
-/// reading the whole label first costs three times as much.
+/// Moves the tags with keys below the bound to the front, and returns their number. The first tag is copied, which
+/// leaves a gap. Each step moves the first tag at or above the bound into the gap, and the next tag to the place that
+/// this leaves free, so that no branch depends on a key. The gap is then one place further on. O(tags).
+///
+/// Exchanging the two tags instead takes a quarter more time. The key is read before its label: reading the whole
+/// label first takes three times as long.
 fn divide(labels: &mut [Label], payloads: &mut [Payload], bound: KeyNumber) -> usize
     requires beside { length payloads.old ≡ length labels.old }
     ensures kept { IsPermutation (tags_of labels.old payloads.old) (tags_of labels.new payloads.new) }
@@ -209,9 +214,10 @@ fn divide(labels: &mut [Label], payloads: &mut [Payload], bound: KeyNumber) -> u
     low + below as usize
 }
 
-/// Sifts the tags from the place `from` on, in order, through the tags before them: each below the bound is
-/// exchanged with the first tag that isn't, if one precedes it. Returns how many are below the bound, which then
-/// come first, and how many exchanges there were. O(tags from `from` on).
+/// Sifts the tags from the place `from` on, in order, through the tags before them. The first one with a key below
+/// the bound is exchanged with the tag at place 0, the second one with the tag at place 1, and so on; any other tag
+/// stays. Returns how many of the sifted tags have keys below the bound, which then come first, and how many of the
+/// exchanges were between two different places. O(tags from `from` on).
 pub(crate) fn sift(
     labels: &mut [Label],
     payloads: &mut [Payload],
@@ -240,8 +246,8 @@ pub(crate) fn sift(
     (low, moved)
 }
 
-/// Moves the tag at `low` into the gap, and puts the tag of this label and payload at `low`. The labels come first:
-/// a payload written between them costs a trip of the label through memory.
+/// Copies the tag at the place `low` to the place `gap`, and then stores the tag of this label and this payload at
+/// `low`. Both labels are written before the payloads: otherwise the label passes through memory once more.
 #[inline(always)]
 fn shift(
     labels: &mut [Label],
@@ -263,10 +269,12 @@ fn shift(
     payloads[low] = payload;
 }
 
-/// Moves the tags below the low bound to the front, followed by those below the high one. Returns how many are
-/// below each bound. The gap moves as in `divide`: each step moves the first tag at or above the high bound into
-/// the gap; if the next tag is below the low bound, the first tag at or above the low bound takes the place left
-/// free; and the next tag takes the last place left free. No branch depends on a key.
+/// Moves the tags with keys below `low` to the front, followed by those below `high`. Returns how many have keys
+/// below `low`, and how many below `high`. O(tags).
+///
+/// The first tag is copied, which leaves a gap, as in `divide`. Each step moves the first tag at or above `high`
+/// into the gap. If the next tag is below `low`, the first tag at or above `low` moves to the place that this leaves
+/// free. The next tag then moves to the place that was left free last. No branch depends on a key.
 fn divide_three(
     labels: &mut [Label],
     payloads: &mut [Payload],
@@ -301,8 +309,8 @@ fn divide_three(
     (middle + is_low as usize, upper + is_below as usize)
 }
 
-/// Moves the tag at `upper` into the gap and the tag at `place` to `upper`, and puts the tag of this label and this
-/// payload at `place`.
+/// Copies the tag at the place `upper` to the place `gap`, then the tag at `place` to `upper`, and then stores the
+/// tag of this label and this payload at `place`.
 #[inline(always)]
 fn turn(
     labels: &mut [Label],
@@ -328,15 +336,17 @@ fn turn(
     payloads[place] = payload;
 }
 
-/// Where a step of `divide_three` puts a tag: at `middle`, where the middle keys begin, if its key is below the
-/// low bound, otherwise at `upper`, where the upper keys begin.
+/// The place where a step of `divide_three` stores a tag: `middle`, where the keys at or above the low bound begin,
+/// if the tag's key is below the low bound (`is_low`); otherwise `upper`, where the keys at or above the high bound
+/// begin.
 fn place_of(is_low: bool, middle: usize, upper: usize) -> usize
     ensures { result ≡ cond is_low middle upper }
 {
     if is_low { middle } else { upper }
 }
 
-/// The sum of the payloads of the tags' rows, of which at most `unread` are unknown.
+/// The sum of the payloads of the tags' rows. The tags are given by their labels and their payloads. `unread` is at
+/// least the number of unknown rows, which are read from the arena. O(tags).
 pub(crate) fn sum(labels: &[Label], payloads: &[Payload], unread: usize, arena: &Arena<Row>) -> i128
     requires beside { length payloads.now ≡ length labels.now }
     requires few { length labels.now ≤ MOST_PLACES }
@@ -355,7 +365,7 @@ pub(crate) fn sum(labels: &[Label], payloads: &[Payload], unread: usize, arena: 
     }
 }
 
-/// The sum of the payloads. Takes no branch, and reads no cell.
+/// The sum of the payloads. Takes no branch that depends on them, and reads no cell. O(payloads).
 fn sum_remembered(payloads: &[Payload]) -> i128
     requires few { length payloads.now ≤ MOST_PLACES }
     ensures value { result ≡ total_by amount payloads.now }
@@ -369,7 +379,7 @@ fn sum_remembered(payloads: &[Payload]) -> i128
     sum
 }
 
-/// The sum of the payloads of the tags' rows; unknown rows are read from the arena.
+/// The sum of the payloads of the tags' rows. Unknown rows are read from the arena. O(tags).
 fn sum_read(labels: &[Label], payloads: &[Payload], arena: &Arena<Row>) -> i128
     requires beside { length payloads.now ≡ length labels.now }
     requires few { length labels.now ≤ MOST_PLACES }

@@ -59,10 +59,12 @@ impl Tags {
         Tags { labels, payloads }
     }
 
+    /// The allocator of the list's memory.
     pub(crate) fn allocator(&self) -> Global {
         *self.labels.allocator()
     }
 
+    /// The number of tags.
     #[inline(always)]
     pub(crate) fn len(&self) -> usize
         ensures value { result ≡ length self.now.items }
@@ -71,7 +73,7 @@ impl Tags {
         self.labels.len()
     }
 
-    /// The tag at the place.
+    /// The tag at the place. O(1).
     #[inline(always)]
     pub(crate) fn get(&self, place: usize) -> Tag
         requires { place < length self.now.items }
@@ -80,7 +82,7 @@ impl Tags {
         with_payload(self.labels[place], self.payloads[place])
     }
 
-    /// The label at the place: its tag without the payload.
+    /// The label at the place: its tag without the payload. O(1).
     #[inline(always)]
     pub(crate) fn label(&self, place: usize) -> Label
         requires { place < length self.now.items }
@@ -89,7 +91,7 @@ impl Tags {
         self.labels[place]
     }
 
-    /// Replaces the tag at the place.
+    /// Replaces the tag at the place. O(1).
     #[inline(always)]
     pub(crate) fn set(&mut self, place: usize, tag: Tag)
         requires { place < length self.old.items }
@@ -99,8 +101,8 @@ impl Tags {
         self.payloads[place] = tag.payload;
     }
 
-    /// Makes room for this many more tags. Refused with `OutOfMemory` if no memory is found; what this call had
-    /// found is freed.
+    /// Makes room for this many more tags. O(1), except for growth. Refused with `OutOfMemory` if no memory is found;
+    /// then memory that this call took is freed.
     pub(crate) fn reserve(&mut self, additional: usize) -> Result<(), Refusal>
         ensures items { self.new.items ≡ self.old.items }
         ensures ok { OnOk result (length self.new.items + additional ≤ self.new.capacity) }
@@ -117,7 +119,7 @@ impl Tags {
         Ok(())
     }
 
-    /// Appends the tag. There must be room.
+    /// Appends the tag. There must be room. O(1).
     pub(crate) fn push_reserved(&mut self, tag: Tag)
         requires { length self.old.items < self.old.capacity }
         ensures { self.new ≡ record self.old { items = self.old.items ++ tag ∷ [] } }
@@ -126,7 +128,8 @@ impl Tags {
         self.payloads.push_reserved(tag.payload);
     }
 
-    /// Replaces the tag at the place, or appends it if the place is the end. Then there must be room.
+    /// Replaces the tag at the place, or appends the tag if the place is `len()`. There must be room to append it.
+    /// O(1).
     pub(crate) fn put(&mut self, place: usize, tag: Tag)
         requires within { place ≤ length self.old.items }
         requires room { place ≡ length self.old.items → place < self.old.capacity }
@@ -139,8 +142,10 @@ impl Tags {
         }
     }
 
-    /// Cracks the tags at the places `from..to` at the bound. At most `unread` of them have unknown rows. Returns
-    /// the place of the first one that isn't below the bound, and how many unknown rows became known.
+    /// Reads the unknown rows of the tags at the places `from..to` from the arena, and reorders these tags so that
+    /// those with keys below the bound come first. `unread` is at least the number of unknown rows. Returns the place
+    /// of the first tag that isn't below the bound, or `to` if there is none, and how many unknown rows became known.
+    /// O(to - from).
     pub(crate) fn crack_between(
         &mut self,
         from: usize,
@@ -167,8 +172,10 @@ impl Tags {
         (from + place, learned)
     }
 
-    /// Cracks the tags at the places `from..to` in three, at two bounds. At most `unread` of them have unknown
-    /// rows. Returns the two places that divide them, and how many unknown rows became known.
+    /// Reads the unknown rows of the tags at the places `from..to` from the arena, and reorders these tags so that
+    /// those with keys below `low` come first, then those below `high`, and then the others. `unread` is at least the
+    /// number of unknown rows. Returns the places where the second and the third part begin, and how many unknown
+    /// rows became known. O(to - from).
     pub(crate) fn crack_between_three(
         &mut self,
         from: usize,
@@ -201,8 +208,9 @@ impl Tags {
         ((from + middle, from + upper), learned)
     }
 
-    /// Sifts the tags at the places `from..to` through the tags at the places `start..from`. Returns how many of
-    /// the sifted tags are below the bound, and how often another tag moved.
+    /// Sifts the tags at the places `from..to` through the tags at the places `start..from`, as `CrackerColumn::sift`
+    /// does. Returns how many of the sifted tags have keys below the bound, and how often one of the other tags
+    /// moved. O(to - from).
     pub(crate) fn sift_between(
         &mut self,
         start: usize,
@@ -224,7 +232,8 @@ impl Tags {
         )
     }
 
-    /// The sum of the payloads of the rows at the places `from..to`, of which at most `unread` are unknown.
+    /// The sum of the payloads of the rows at the places `from..to`. `unread` is at least the number of unknown rows
+    /// among them, which are read from the arena. O(to - from).
     pub(crate) fn sum_between(
         &self,
         from: usize,
@@ -251,7 +260,7 @@ impl Tags {
         )
     }
 
-    /// The first place of the handle in `from..to`, counted from `from`, or `None` if it isn't there.
+    /// The first place of the handle in `from..to`, counted from `from`, or `None` if it isn't there. O(to - from).
     pub(crate) fn find_between(&self, from: usize, to: usize, handle: Handle<Row>) -> Option<usize>
         requires order { from ≤ to }
         requires within { to ≤ length self.now.items }

@@ -22,7 +22,7 @@ abbrev pub has_space : List ℕ → Bool
 has_space [] = false
 has_space (b ∷ bs) = b == 32 || has_space bs
 
--- whether a word has a byte
+-- whether these bytes, which have no space, are a word: there is at least one byte
 abbrev pub is_word : List ℕ → Bool
 is_word word = not (bytes_eq word [])
 
@@ -30,20 +30,20 @@ is_word word = not (bytes_eq word [])
 abbrev pub has_sign : List ℕ → Bool
 has_sign word = slice_index word 0 == 45
 
--- The first word, and the bytes after it. The word is empty if there is none.
+-- `word` is the first word of `bytes`, or empty if they have none; `rest` has the words after it.
 pub record IsFirstWord (bytes word rest : List ℕ) : Type 0 where
   pub some : is_word word ≡ true → words bytes ≡ word ∷ words rest
   pub none : is_word word ≡ false → (words bytes ≡ []) × (words rest ≡ [])
 
--- the first word parsed as a number, if it is one, and the bytes after the word
+-- `number` is the value of the first word of `bytes` as a number, `None` if it isn't one; `rest` has the words after it
 abbrev pub IsFirstNumber : List ℕ → Option ℕ → List ℕ → Type 0
 IsFirstNumber bytes number rest = (word : List ℕ) × IsFirstWord bytes word rest × (number ≡ number_of word)
 
--- the first word parsed as an integer, if it is one, and the bytes after the word
+-- `number` is the value of the first word of `bytes` as an integer, or `None`; `rest` has the words after this word
 abbrev pub IsFirstWholeNumber : List ℕ → Option ℤ → List ℕ → Type 0
 IsFirstWholeNumber bytes number rest = (word : List ℕ) × IsFirstWord bytes word rest × (number ≡ whole_number_of word)
 
--- the key and the payload with these numbers, if both are in range
+-- the key and the payload with these numbers; `None` if one of the numbers isn't in the range of keys, or of payloads
 abbrev pub row_from : ℕ → ℤ → Option (Key × Payload)
 row_from key payload = option_zip (option_map (λ n. record { 0 = n }) (if nat_le key GREATEST_KEY then Some key else None)) (if int_le LEAST_PAYLOAD payload && int_le payload GREATEST_PAYLOAD then Some (record { 0 = payload }) else None)
 
@@ -51,8 +51,8 @@ row_from key payload = option_zip (option_map (λ n. record { 0 = n }) (if nat_l
 abbrev pub value_on : ℕ → List ℕ → ℕ
 value_on n word = fold (λ n b. n * 10 + (b - 48)) n word
 
--- The bytes begin with 1 to 20 digits, which a space or the end of the bytes follows: their value, and the bytes
--- after them.
+-- The bytes begin with 1 to 20 digits, and then a space follows, or nothing. `number` is the value of the digits, and
+-- `rest` are the bytes after them.
 pub record BeginsWithDigits (bytes : List ℕ) (number : ℕ) (rest : List ℕ) : Type 0 where
   pub count : ℕ
   pub few : (0 < count) × (count ≤ 20) × (count ≤ length bytes)
@@ -61,7 +61,7 @@ pub record BeginsWithDigits (bytes : List ℕ) (number : ℕ) (rest : List ℕ) 
   pub ends : count < length bytes → slice_index bytes count ≡ 32
   pub behind : rest ≡ drop count bytes
 
--- The bytes begin with an integer of `count` bytes, at most 21, and the byte `stop` follows it. None of the `count`
+-- The first `count` bytes, at most 21, are the integer `number`, and the byte `stop` follows them. None of the `count`
 -- bytes is a space or a control character.
 pub record BeginsWithWhole (bytes : List ℕ) (stop : ℕ) (number : ℤ) (count : ℕ) : Type 0 where
   pub few : (0 < count) × (count ≤ 21) × (count < length bytes)
@@ -69,8 +69,8 @@ pub record BeginsWithWhole (bytes : List ℕ) (stop : ℕ) (number : ℤ) (count
   pub printed : list_all (nat_lt 32) (take count bytes) ≡ true
   pub says : whole_number_of (take count bytes) ≡ Some number
 
--- The bytes begin with an integer of at most 21 bytes, after which a line ends. The line has `len` bytes, including
--- the carriage return at its end, if it has one.
+-- The bytes begin with the integer `number`, of at most 21 bytes, and then the line ends: with a line feed, or with a
+-- carriage return and a line feed. `len` bytes are before the line feed.
 pub record EndsLine (bytes : List ℕ) (number : ℤ) (len : ℕ) : Type 0 where
   pub count : ℕ
   pub few : (0 < count) × (count ≤ 21) × (len < length bytes)
@@ -79,60 +79,63 @@ pub record EndsLine (bytes : List ℕ) (number : ℤ) (len : ℕ) : Type 0 where
   pub printed : list_all (nat_lt 32) (take count bytes) ≡ true
   pub says : whole_number_of (take count bytes) ≡ Some number
 
--- whether the bit with this number is set
+-- whether the bit of `bits` with this number, from 0, is set
 abbrev pub has_bit : ℕ → ℕ → Bool
 has_bit bits number = bit_at bits number == 1
 
--- the number of a bit after a space, if the bit is set
+-- a space and `number`, if the bit of `bits` with this number is set; else nothing
 abbrev pub bit_text : ℕ → ℕ → List ℕ
 bit_text bits number = if has_bit bits number then field_text number else []
 
--- the line of a refusal: its code, and the text of what it carries
+-- the line of a refusal: `refused`, its code, and the text of the numbers that it carries, each after a space
 abbrev pub refused_text : ℕ → List ℕ → List ℕ
 refused_text code carried = codes "refused " ++ decimal code ++ carried ++ codes "\n"
 
--- the meaning of the words after `insert`: `K V`, a key and a payload
+-- the meaning of the words after `insert`: an insert if they are `K V`, a key and a payload, else `BadStatement`
 abbrev pub insert_of : List (List ℕ) → Reading
 insert_of arguments = made (λ n. Insert n.0 n.1) (two_of key_read payload_read arguments)
 
--- the meaning of the words after `delete`: `P.S`, a row number
+-- the meaning of the words after `delete`: a delete if they are `P.S`, one row number, else `BadStatement`
 abbrev pub delete_of : List (List ℕ) → Reading
 delete_of arguments = made Delete (row_number_of (only_word arguments))
 
--- an update of this row to this key and payload, or `BadStatement` if either couldn't be parsed
+-- an update of this row to this key and payload, or `BadStatement` if the row or the pair is `None`
 abbrev pub update_from : Option RowNo → Option (Key × Payload) → Reading
 update_from row pair = made (λ u. Update u.0 u.1.0 u.1.1) (option_zip row pair)
 
--- the meaning of the words after `update`: `P.S K V`, a row number, a key and a payload
+-- the meaning of the words after `update`: an update if they are a row number, a key and a payload, else `BadStatement`
 abbrev pub update_of : List (List ℕ) → Reading
 update_of arguments = made (λ u. Update u.0 u.1.0 u.1.1) (option_zip (row_number_of (slice_index_or arguments 0 [])) (two_of key_read payload_read (drop 1 arguments)))
 
--- the range between these ends, refused with `BadRange` if they are out of order or too great, and with
--- `BadStatement` if they couldn't be parsed
+-- the range from the first number to the second. `BadRange` if the first is greater, or the second is above
+-- GREATEST_BOUND; `BadStatement` if there is no pair of numbers.
 abbrev pub range_from : Option (ℕ × ℕ) → Result Range Refusal
 range_from (Some (low, high)) = if nat_le low high && nat_le high GREATEST_BOUND then Ok (record { low = low; high = high }) else Err BadRange
 range_from None = Err BadStatement
 
--- the meaning of the words after `layout`: `P`, the number of a partition
+-- the meaning of the words after `layout`: the layout of the partition `P` if the only word is `P`, a number up to
+-- GREATEST_PART, else `BadStatement`
 abbrev pub layout_of : List (List ℕ) → Reading
 layout_of arguments = made AsksLayout (number_up_to GREATEST_PART (only_word arguments))
 
--- the meaning of the words after `checkpoint`: `P`, the number of a partition
+-- the meaning of the words after `checkpoint`: a checkpoint of the partition `P` if the only word is `P`, a number up
+-- to GREATEST_PART, else `BadStatement`
 abbrev pub checkpoint_of : List (List ℕ) → Reading
 checkpoint_of arguments = made Checkpoint (number_up_to GREATEST_PART (only_word arguments))
 
--- the meaning of the words after `stats`: no word, or `P`, the number of a partition
+-- the meaning of the words after `stats`: the statistics of the table if there are none, or of the partition `P` if the
+-- only word is `P`, a number up to GREATEST_PART, else `BadStatement`
 abbrev pub watch_of : List (List ℕ) → Reading
 watch_of arguments = if length arguments == 0 then Ok Watch else made WatchPart (number_up_to GREATEST_PART (only_word arguments))
 
--- the meaning of the words after `policy`: `NAME`, the name of a policy
+-- the meaning of the words after `policy`: that policy for the session if they are the name of one, else `BadStatement`
 abbrev pub policy_of : List (List ℕ) → Reading
 policy_of arguments = made Policy (policy_named (only_word arguments))
 
--- the meaning of the words after `ping`: no word
+-- the meaning of the words after `ping`: `Ping` if there are none, else `BadStatement`
 abbrev pub ping_of : List (List ℕ) → Reading
 ping_of arguments = if length arguments == 0 then Ok Ping else Err BadStatement
 
--- the meaning of the words after `quit`: no word
+-- the meaning of the words after `quit`: the end of the session if there are none, else `BadStatement`
 abbrev pub quit_of : List (List ℕ) → Reading
 quit_of arguments = if length arguments == 0 then Ok (End Quit) else Err BadStatement

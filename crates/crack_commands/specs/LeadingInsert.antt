@@ -6,9 +6,8 @@ use Rattle.crack_row.specs.declared.Payload.{Payload}
 use Rattle.crack_commands.specs.Grammar.{statement_of}
 use Rattle.crack_commands.specs.declared.statement.Statement.TheVariants.{Insert}
 
--- The bytes begin with a line of length `len`, without its line feed, which is an insert of this row. Its text,
--- without the carriage return at its end, if there is one, isn't blank, has no control character, and has at most
--- 49 bytes.
+-- The first `len` bytes are a line, and a line feed follows them. The line, without the carriage return that may end
+-- it, is an `insert` of this key and payload. It isn't blank, has no control character, and has at most 49 bytes.
 pub record BeginsWithInsert (bytes : List ℕ) (len : ℕ) (key : Key) (payload : Payload) : Type 0 where
   pub within : len < length bytes
   pub feed : slice_index bytes len ≡ 10

@@ -39,7 +39,8 @@ pub fn leading_insert(bytes: &[u8]) -> Option<LeadingInsert>
     })
 }
 
-/// Parses an integer at the beginning, if the line ends after it, and returns it with the number of bytes before the
+/// Parses the integer at the beginning of `bytes`, and returns it with the number of bytes before the line feed.
+/// `None` unless its digits fit 64 bits and the line ends after it, with a line feed or with a carriage return and a
 /// line feed.
 #[inline(always)]
 fn last_number(bytes: &[u8]) -> Option<(i128, usize)>
@@ -51,7 +52,7 @@ fn last_number(bytes: &[u8]) -> Option<(i128, usize)>
     }
 }
 
-/// Implements `last_number` for a line that ends with a carriage return.
+/// Implements `last_number` for an integer that a carriage return and a line feed follow.
 #[cold]
 #[inline(never)]
 fn number_before_return(bytes: &[u8]) -> Option<(i128, usize)>
@@ -65,8 +66,8 @@ fn number_before_return(bytes: &[u8]) -> Option<(i128, usize)>
     }
 }
 
-/// Parses an integer at the beginning, if its digits fit 64 bits and the byte `stop` follows it, and returns it
-/// with its length in bytes.
+/// Parses the integer at the beginning of `bytes`, and returns it with its length in bytes. `None` unless its digits
+/// fit 64 bits and the byte `stop` follows it.
 #[inline(always)]
 fn whole_number_before(bytes: &[u8], stop: u8) -> Option<(i128, usize)>
     ensures { IfSome result (λ n. BeginsWithWhole bytes.now stop n.0 n.1) }
@@ -77,8 +78,8 @@ fn whole_number_before(bytes: &[u8], stop: u8) -> Option<(i128, usize)>
     Some((number, bytes.len() - digits.len() + count))
 }
 
-/// Parses a number of 64 bits at the beginning, if the byte `stop` follows it, and returns it with the number of
-/// its digits.
+/// Parses the number at the beginning of `bytes`, and returns it with the number of its digits. `None` unless there is
+/// a digit, the number fits 64 bits, and the byte `stop` follows it.
 #[inline(always)]
 fn number_before(bytes: &[u8], stop: u8) -> Option<(u64, usize)>
     ensures within { IfSome result (λ n. (0 < n.1) × (n.1 ≤ MOST_DIGITS) × (n.1 < length bytes.now)) }

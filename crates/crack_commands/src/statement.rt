@@ -60,9 +60,9 @@ pub enum ClosingLine {
     Http,
 }
 
-/// Parses a line as a statement. A line of an HTTP request is `End(Http)`. Refused with `BadRange` if the ends of a
-/// range are out of order or too great, and with `BadStatement` if the line isn't a statement for another reason or
-/// has no word. O(bytes of the line), no memory.
+/// Parses a line, without its line feed, as a statement. A line of an HTTP request is `End(Http)`. Refused with
+/// `BadRange` if the low end of a range is above the high end, or the high end is above `GREATEST_BOUND`. Refused with
+/// `BadStatement` if the line isn't a statement for another reason or has no word. O(bytes of the line), no memory.
 #[inline(always)]
 pub fn parse_statement(line: &[u8]) -> Result<Statement, Refusal>
     ensures { result ≡ statement_of line.now }
@@ -71,8 +71,8 @@ pub fn parse_statement(line: &[u8]) -> Result<Statement, Refusal>
     parse_named(name, rest)
 }
 
-/// Parses a line that is too long to be a statement, of which only the first bytes are given. Returns `End(Http)`
-/// if it belongs to an HTTP request; otherwise it is refused with `BadStatement`. O(these bytes), no memory.
+/// Parses a line that is too long to be a statement, by its first bytes, `front`. Returns `End(Http)` if the line
+/// belongs to an HTTP request; otherwise it is refused with `BadStatement`. O(bytes of `front`), no memory.
 #[tactic(auto, unfolding(crate::specs::Grammar::long_of))]
 #[cold]
 #[inline(never)]
@@ -131,14 +131,16 @@ fn parse_unnamed(word: &[u8]) -> Result<Statement, Refusal>
     }
 }
 
-/// Whether a line with this first word belongs to an HTTP request.
+/// Whether a line with this first word belongs to an HTTP request: the word is one of nine HTTP methods in capitals
+/// (`is_method`), or begins with one or more letters, digits and hyphens and a colon, as any header does.
 fn is_http(word: &[u8]) -> bool
     ensures { result ≡ is_http word.now }
 {
     is_method(word) || has_header(word)
 }
 
-/// Whether a word begins with the name of an HTTP header and a colon.
+/// Whether a word begins with the name of an HTTP header, which is one or more letters, digits and hyphens, and a
+/// colon.
 fn has_header(word: &[u8]) -> bool
     ensures { result ≡ has_header word.now }
 {
@@ -160,7 +162,7 @@ fn is_name_byte(b: u8) -> bool
     matches!(b, b'0'..=b'9' | b'A'..=b'Z' | b'a'..=b'z' | b'-')
 }
 
-/// Whether a word is an HTTP method.
+/// Whether a word is one of the HTTP methods GET, POST, HEAD, PUT, DELETE, OPTIONS, CONNECT, TRACE and PATCH.
 fn is_method(word: &[u8]) -> bool
     ensures { result ≡ is_method word.now }
 {
@@ -207,7 +209,7 @@ fn parse_update(rest: &[u8]) -> Result<Statement, Refusal>
     }
 }
 
-/// Makes an update of the row to the pair's key and payload. Refused with `BadStatement` if there is no pair.
+/// Makes an update of the row to this key and payload. Refused with `BadStatement` if `pair` is `None`.
 fn update_from(row: RowNo, pair: Option<(Key, Payload)>) -> Result<Statement, Refusal>
     ensures { result ≡ update_from (Some row) pair }
 {
@@ -250,8 +252,8 @@ fn parse_select(rest: &[u8]) -> Result<Statement, Refusal>
     }
 }
 
-/// Parses two numbers as a range. Refused with `BadRange` if they are out of order or too great, and with
-/// `BadStatement` if there aren't exactly two numbers.
+/// Parses two numbers as the low and the high end of a range. Refused with `BadRange` if the low end is above the high
+/// end, or the high end is above `GREATEST_BOUND`, and with `BadStatement` if there aren't exactly two numbers.
 fn parse_range(rest: &[u8]) -> Result<KeyRange, Refusal>
     ensures { result ≡ range_from (two_of number_of number_of (words rest.now)) }
 {
@@ -296,7 +298,7 @@ fn parse_stats(rest: &[u8]) -> Result<Statement, Refusal>
     }
 }
 
-/// Parses what follows `policy`. Refused with `BadStatement` if it isn't one policy's name.
+/// Parses what follows `policy`. Refused with `BadStatement` if it isn't the name of one policy.
 fn parse_policy(rest: &[u8]) -> Result<Statement, Refusal>
     ensures { result ≡ policy_of (words rest.now) }
 {

@@ -1,4 +1,5 @@
-//! Appending the texts of replies, layouts and refusals.
+//! Appending the texts of replies, layouts and refusals. Each function that adds to `text` needs room there, and takes
+//! O(bytes added) and no memory.
 ghost use Rattle.std.specs.Prelude.{◌≡◌, ◌+◌, ◌<◌, ◌≤◌, ◌++◌, length, decimal, codes};
 ghost use Rattle.std.specs.List.{flat_map};
 ghost use Rattle.std.specs.Fmt.{signed_decimal};
@@ -21,7 +22,7 @@ pub const LONGEST_TEXT: usize = 2048;
 /// serial of 20, and three more bytes.
 const PLACED_BYTES: usize = 48;
 
-/// Adds the line of a row that was inserted: `row P.S`.
+/// Adds the line of a row that was inserted: `row P.S`, with the number of its partition and its serial.
 #[inline(always)]
 pub fn push_placed<const ROOM: usize>(text: &mut ArrayVec<u8, ROOM>, part: u32, serial: Serial)
     requires { length text.old.items + PLACED_BYTES ≤ ROOM }
@@ -32,8 +33,8 @@ pub fn push_placed<const ROOM: usize>(text: &mut ArrayVec<u8, ROOM>, part: u32, 
     push(text, b"\n");
 }
 
-/// Adds the beginning of an inserted row's line, through the full stop after the partition number: in one step if
-/// that has one digit.
+/// Adds the beginning of an inserted row's line, `row P.`, with the number `part`. If the number has one digit, all
+/// bytes are added in one step.
 #[inline(always)]
 #[tactic(auto, using(std::proofs::lemmas::Fmt::decimal_digit))]
 fn push_part<const ROOM: usize>(text: &mut ArrayVec<u8, ROOM>, part: u32)
@@ -50,7 +51,7 @@ fn push_part<const ROOM: usize>(text: &mut ArrayVec<u8, ROOM>, part: u32)
     }
 }
 
-/// Adds the line of a row that was deleted: `gone K V`.
+/// Adds the line of a row that was deleted: `gone K V`, with its key and its payload.
 pub fn push_gone<const ROOM: usize>(text: &mut ArrayVec<u8, ROOM>, row: &Row)
     requires { length text.old.items + TEXT_BYTES ≤ ROOM }
     ensures { text.new.items ≡ text.old.items ++ gone_text row.now }
@@ -102,7 +103,8 @@ pub fn push_head<const ROOM: usize>(text: &mut ArrayVec<u8, ROOM>, total: u64)
     push(text, b"\n");
 }
 
-/// Adds the line of one row of the partition `part`: `P.S K V`.
+/// Adds the line of a row of the partition `part`: `P.S K V`, with the partition's number, the serial, the key and the
+/// payload.
 pub fn push_row<const ROOM: usize>(text: &mut ArrayVec<u8, ROOM>, part: u32, row: &Row)
     requires { length text.old.items + TEXT_BYTES ≤ ROOM }
     ensures { text.new.items ≡ text.old.items ++ row_text part row.now }
@@ -117,7 +119,7 @@ pub fn push_row<const ROOM: usize>(text: &mut ArrayVec<u8, ROOM>, part: u32, row
     push(text, b"\n");
 }
 
-/// Adds two names of at most 10 bytes, each followed by its number.
+/// Adds the name `first` and `number`, and then the name `second` and `other`. Each name has at most 10 bytes.
 fn push_two_fields<const ROOM: usize>(
     text: &mut ArrayVec<u8, ROOM>,
     first: &[u8],
@@ -136,7 +138,8 @@ fn push_two_fields<const ROOM: usize>(
     push_number(text, other);
 }
 
-/// Adds the first line of the layout of the partition `part`: its sizes, and its number of pieces.
+/// Adds the first line of the layout of the partition `part`: its number, the sizes in `layout`, and the number of
+/// pieces.
 pub fn push_layout_head<const ROOM: usize>(
     text: &mut ArrayVec<u8, ROOM>,
     part: u32,
@@ -159,7 +162,7 @@ pub fn push_layout_head<const ROOM: usize>(
     push(text, b"\n");
 }
 
-/// Adds the line of a piece: its two bounds, and its size.
+/// Adds the line of a piece: `piece LOW HIGH SIZE`, with its two bounds and its number of rows.
 pub fn push_piece<const ROOM: usize>(text: &mut ArrayVec<u8, ROOM>, piece: &PieceSize)
     requires { length text.old.items + TEXT_BYTES ≤ ROOM }
     ensures { text.new.items ≡ text.old.items ++ piece_text piece.now }
@@ -173,7 +176,7 @@ pub fn push_piece<const ROOM: usize>(text: &mut ArrayVec<u8, ROOM>, piece: &Piec
     push(text, b"\n");
 }
 
-/// Adds the line of a refusal: its code, and the numbers that it carries.
+/// Adds the line of a refusal: `refused`, its code, and the numbers that it carries, each after a space.
 pub fn push_refusal<const ROOM: usize>(text: &mut ArrayVec<u8, ROOM>, refusal: &Refusal)
     requires { length text.old.items + LONGEST_TEXT ≤ ROOM }
     ensures { text.new.items ≡ text.old.items ++ refusal_text refusal.now }
@@ -190,7 +193,7 @@ pub fn push_refusal<const ROOM: usize>(text: &mut ArrayVec<u8, ROOM>, refusal: &
     }
 }
 
-/// Adds the line of a refusal with at most two numbers.
+/// Adds the line of a refusal: `refused`, this code, and the numbers in `numbers`, at most two, each after a space.
 fn push_refused<const ROOM: usize>(text: &mut ArrayVec<u8, ROOM>, code: u32, numbers: &[u64])
     requires few { length numbers.now ≤ 2 }
     requires room { length text.old.items + LONGEST_TEXT ≤ ROOM }
@@ -202,7 +205,7 @@ fn push_refused<const ROOM: usize>(text: &mut ArrayVec<u8, ROOM>, code: u32, num
     push(text, b"\n");
 }
 
-/// Adds the line of a refusal with the numbers of the missing workers, whose bits are set in `missing`.
+/// Adds the line of a refusal with this code and the numbers of the missing workers, whose bits are set in `missing`.
 fn push_missing<const ROOM: usize>(text: &mut ArrayVec<u8, ROOM>, code: u32, missing: u64)
     requires { length text.old.items + LONGEST_TEXT ≤ ROOM }
     ensures { text.new.items ≡ text.old.items ++ refused_text code (bits_text missing 64) }
@@ -213,7 +216,7 @@ fn push_missing<const ROOM: usize>(text: &mut ArrayVec<u8, ROOM>, code: u32, mis
     push(text, b"\n");
 }
 
-/// Adds the numbers of the bits that are set, in rising order, each after a space.
+/// Adds the numbers of the bits of `bits` that are set, from 0 up, each after a space.
 fn push_bits<const ROOM: usize>(text: &mut ArrayVec<u8, ROOM>, bits: u64)
     requires { length text.old.items + 1344 ≤ ROOM }
     ensures value { text.new.items ≡ text.old.items ++ bits_text bits 64 }
@@ -224,7 +227,7 @@ fn push_bits<const ROOM: usize>(text: &mut ArrayVec<u8, ROOM>, bits: u64)
     }
 }
 
-/// Adds the number of a bit after a space, if the bit is set.
+/// Adds a space and this number, if the bit of `bits` with this number is set.
 fn push_bit<const ROOM: usize>(text: &mut ArrayVec<u8, ROOM>, bits: u64, number: u32)
     requires known { number < 64 }
     requires room { length text.old.items + 21 ≤ ROOM }
@@ -236,7 +239,7 @@ fn push_bit<const ROOM: usize>(text: &mut ArrayVec<u8, ROOM>, bits: u64, number:
     }
 }
 
-/// Whether the bit with this number is set.
+/// Whether the bit of `bits` with this number, from 0, is set.
 #[tactic(auto, using(std::proofs::lemmas::Nat::Bits::shr_and_one))]
 fn has_bit(bits: u64, number: u32) -> bool
     requires { number < 64 }
@@ -245,7 +248,7 @@ fn has_bit(bits: u64, number: u32) -> bool
     (bits >> number) & 1 == 1
 }
 
-/// The answer to the statement `policy`, without its line feed.
+/// The answer to a statement `policy` that sets this policy, without its line feed.
 pub fn policy_line(policy: Policy) -> &'static [u8]
     ensures { result.now ++ codes "\n" ≡ policy_text policy }
 {
@@ -269,7 +272,7 @@ fn push_fields<const ROOM: usize>(text: &mut ArrayVec<u8, ROOM>, numbers: &[u64]
     }
 }
 
-/// Adds a number after a space.
+/// Adds a space and a number in decimal.
 fn push_field<const ROOM: usize>(text: &mut ArrayVec<u8, ROOM>, number: u64)
     requires { length text.old.items + 21 ≤ ROOM }
     ensures digits { text.new.items ≡ text.old.items ++ field_text number }
@@ -279,7 +282,7 @@ fn push_field<const ROOM: usize>(text: &mut ArrayVec<u8, ROOM>, number: u64)
     push_number(text, number);
 }
 
-/// Adds a key in decimal.
+/// Adds a key in decimal: at most 20 digits.
 #[inline(always)]
 fn push_key<const ROOM: usize>(text: &mut ArrayVec<u8, ROOM>, key: Key)
     requires { length text.old.items + 20 ≤ ROOM }
@@ -300,7 +303,7 @@ fn push_payload<const ROOM: usize>(text: &mut ArrayVec<u8, ROOM>, payload: Paylo
     push(text, digits.format(payload.number()).as_bytes());
 }
 
-/// Adds a bound of a range in decimal. Usually it fits 64 bits.
+/// Adds a bound of a range in decimal: at most 40 digits. A bound that fits 64 bits is formatted as such.
 fn push_bound<const ROOM: usize>(text: &mut ArrayVec<u8, ROOM>, bound: Bound)
     requires { length text.old.items + 40 ≤ ROOM }
     ensures digits { text.new.items ≡ text.old.items ++ decimal bound.0 }
@@ -354,7 +357,7 @@ fn push_wide_number<const ROOM: usize>(text: &mut ArrayVec<u8, ROOM>, number: u1
     push(text, digits.format(number).as_bytes());
 }
 
-/// Adds bytes, for which there must be room.
+/// Adds `bytes`, for which there must be room.
 pub fn push<const ROOM: usize>(text: &mut ArrayVec<u8, ROOM>, bytes: &[u8])
     requires { length text.old.items + length bytes.now ≤ ROOM }
     ensures { text.new.items ≡ text.old.items ++ bytes.now }

@@ -1,4 +1,5 @@
-//! The texts of statistics, for monitoring.
+//! The texts of statistics, for monitoring. Each function appends to `text`, which must have room, and takes no
+//! memory.
 ghost use Rattle.std.specs.Prelude.{◌≡◌, ◌+◌, ◌≤◌, ◌++◌, length, codes, decimal};
 ghost use Rattle.crack_commands.specs.Watching.{named_text, numbers_text, row_numbers, cell_numbers};
 ghost use Rattle.crack_commands.specs.Watching.{traffic_text, client_numbers, time_numbers};
@@ -17,9 +18,9 @@ pub struct Traffic {
     pub sessions: u64,
     /// How many statements were answered a second, over the last minute.
     pub statements_per_second: u64,
-    /// The longest time that the statements of one read took, over the last minute.
+    /// The longest time that the statements of one read took, over the last minute, in microseconds.
     pub longest_microseconds: u64,
-    /// How long ago the server started.
+    /// How many seconds ago the server started.
     pub uptime_seconds: u64,
 }
 
@@ -48,7 +49,7 @@ pub fn push_numbers<const ROOM: usize>(
     }
 }
 
-/// Adds the line that says how many numbers follow.
+/// Adds the line `stats N`, which says that `count` numbers follow.
 fn push_count_of_numbers<const ROOM: usize>(text: &mut ArrayVec<u8, ROOM>, count: u64)
     requires room { length text.old.items + 60 ≤ ROOM }
     ensures value { text.new.items ≡ text.old.items ++ line_text (codes "stats ") (decimal count) }
@@ -59,7 +60,7 @@ fn push_count_of_numbers<const ROOM: usize>(text: &mut ArrayVec<u8, ROOM>, count
     push(text, b"\n");
 }
 
-/// Adds the lines about rows and pieces.
+/// Adds the lines with the numbers of rows, pending insertions, pending deletions and pieces.
 fn push_row_numbers<const ROOM: usize>(text: &mut ArrayVec<u8, ROOM>, statistics: &Statistics)
     requires room { length text.old.items + 240 ≤ ROOM }
     ensures value { text.new.items ≡ text.old.items ++ row_numbers statistics.now }
@@ -71,7 +72,8 @@ fn push_row_numbers<const ROOM: usize>(text: &mut ArrayVec<u8, ROOM>, statistics
     push_named(text, b"pieces ", statistics.pieces);
 }
 
-/// Adds the lines about cells and commands.
+/// Adds the lines with the numbers of cells, free cells, commands accepted, and commands accepted since the last
+/// checkpoint.
 fn push_cell_numbers<const ROOM: usize>(text: &mut ArrayVec<u8, ROOM>, statistics: &Statistics)
     requires room { length text.old.items + 240 ≤ ROOM }
     ensures value { text.new.items ≡ text.old.items ++ cell_numbers statistics.now }
@@ -87,7 +89,7 @@ fn push_cell_numbers<const ROOM: usize>(text: &mut ArrayVec<u8, ROOM>, statistic
     );
 }
 
-/// Adds the lines of a server's traffic.
+/// Adds the five lines of a server's traffic.
 fn push_traffic<const ROOM: usize>(text: &mut ArrayVec<u8, ROOM>, traffic: &Traffic)
     requires room { length text.old.items + 300 ≤ ROOM }
     ensures value { text.new.items ≡ text.old.items ++ traffic_text traffic.now }
@@ -96,7 +98,7 @@ fn push_traffic<const ROOM: usize>(text: &mut ArrayVec<u8, ROOM>, traffic: &Traf
     push_time_numbers(text, traffic);
 }
 
-/// Adds the lines about clients and sessions.
+/// Adds the lines with the numbers of connected clients and of sessions.
 fn push_client_numbers<const ROOM: usize>(text: &mut ArrayVec<u8, ROOM>, traffic: &Traffic)
     requires room { length text.old.items + 120 ≤ ROOM }
     ensures value { text.new.items ≡ text.old.items ++ client_numbers traffic.now }
@@ -106,7 +108,8 @@ fn push_client_numbers<const ROOM: usize>(text: &mut ArrayVec<u8, ROOM>, traffic
     push_named(text, b"sessions ", traffic.sessions);
 }
 
-/// Adds the lines about statements and times.
+/// Adds the lines with the statements per second, the longest time in microseconds, and the seconds since the server's
+/// start.
 fn push_time_numbers<const ROOM: usize>(text: &mut ArrayVec<u8, ROOM>, traffic: &Traffic)
     requires room { length text.old.items + 180 ≤ ROOM }
     ensures value { text.new.items ≡ text.old.items ++ time_numbers traffic.now }
@@ -121,7 +124,7 @@ fn push_time_numbers<const ROOM: usize>(text: &mut ArrayVec<u8, ROOM>, traffic: 
     push_named(text, b"uptime_seconds ", traffic.uptime_seconds);
 }
 
-/// Adds a line of a name, which ends with a space, and its number.
+/// Adds the line of `name`, which ends with a space and has at most 30 bytes with it, and `number`.
 fn push_named<const ROOM: usize>(text: &mut ArrayVec<u8, ROOM>, name: &[u8], number: u64)
     requires short { length name.now ≤ 30 }
     requires room { length text.old.items + 60 ≤ ROOM }

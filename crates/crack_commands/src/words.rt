@@ -1,4 +1,4 @@
-//! Parsing words and numbers.
+//! Parsing words, which spaces separate, and numbers. Each function takes O(bytes) and no memory.
 ghost use Rattle.std.specs.Prelude.{pos, neg_ℤ, int_le, ◌&&◌, ◌≡◌, ◌+◌, ◌-◌, ◌*◌, ◌^◌, ◌<◌, ◌≤◌, ◌≢◌, ◌↔◌, true, false};
 ghost use Rattle.std.specs.Prelude.{length, IsTrue, Some, take, drop, ◌==◌, if◌then◌else◌, IfSome, slice_index};
 ghost use Rattle.std.specs.List.{list_all, position_or_len};
@@ -18,7 +18,7 @@ pub const MOST_DIGITS: usize = 20;
 /// Any number of this many digits fits 64 bits.
 pub(crate) const SHORT_DIGITS: usize = 19;
 
-/// How many digits are parsed at once, if there are as many.
+/// How many digits are parsed at once, if the number has so many.
 const BLOCK_DIGITS: usize = 8;
 
 /// The greatest partition number in a statement.
@@ -40,8 +40,8 @@ pub fn key_and_payload(bytes: &[u8]) -> Option<(Key, Payload)>
     any_key_and_payload(bytes)
 }
 
-/// Parses exactly two words as a number and an integer, if 64 bits are enough for the digits of each and no space
-/// follows them.
+/// Parses exactly two words as a number and an integer. `None` for anything else, and also if the digits of one don't
+/// fit 64 bits or a space follows the second word.
 #[inline(always)]
 fn two_short_words(bytes: &[u8]) -> Option<(u64, i128)>
     ensures { IfSome result (λ pair. two_of key_read payload_read (words bytes.now) ≡ row_from pair.0 pair.1) }
@@ -71,7 +71,8 @@ fn any_key_and_payload(bytes: &[u8]) -> Option<(Key, Payload)>
     }
 }
 
-/// The key and the payload with these numbers, if both are in range. Both are tested together.
+/// The key and the payload with these numbers. `None` if one of the numbers is out of range. Both are tested in one
+/// step, without a branch between them.
 #[inline(always)]
 pub(crate) fn row_from(key: u128, payload: i128) -> Option<(Key, Payload)>
     ensures { result ≡ row_from key payload }
@@ -131,7 +132,8 @@ pub fn two_numbers(bytes: &[u8]) -> Option<(u128, u128)>
     }
 }
 
-/// Parses exactly two words as numbers of 64 bits, if no space follows them.
+/// Parses exactly two words as numbers. `None` for anything else, and also if one doesn't fit 64 bits or a space
+/// follows the second word.
 #[inline(always)]
 fn two_short_numbers(bytes: &[u8]) -> Option<(u64, u64)>
     ensures { IfSome result (λ pair. two_of number_of number_of (words bytes.now) ≡ Some (pair.0, pair.1)) }
@@ -160,7 +162,7 @@ fn any_two_numbers(bytes: &[u8]) -> Option<(u128, u128)>
     }
 }
 
-/// Parses the first word as a number, if it is one, and returns it with the bytes after the word.
+/// Returns the value of the first word as a number, `None` if it isn't one, and the bytes after the word.
 fn next_number(bytes: &[u8]) -> (Option<u128>, &[u8])
     ensures { IsFirstNumber bytes.now result.0 result.1.now }
 {
@@ -226,7 +228,8 @@ pub(crate) fn place_of(byte: u8, word: &[u8]) -> usize
     word.len()
 }
 
-/// Parses the first word as a number of 64 bits, if it is one, and returns it with the bytes after the word.
+/// Parses the first word as a number, and returns it with the bytes after the word. `None` if the word isn't a number
+/// that fits 64 bits.
 #[inline(always)]
 fn short_number(bytes: &[u8]) -> Option<(u64, &[u8])>
     ensures { IfSome result (λ pair. IsFirstNumber bytes.now (Some pair.0) pair.1.now) }
@@ -234,8 +237,8 @@ fn short_number(bytes: &[u8]) -> Option<(u64, &[u8])>
     short_digits(without_spaces(bytes))
 }
 
-/// Parses the first word as an integer, if 64 bits are enough for its digits, and returns it with the bytes after
-/// the word.
+/// Parses the first word as an integer, and returns it with the bytes after the word. `None` if the word isn't an
+/// integer, or its digits don't fit 64 bits.
 #[inline(always)]
 fn short_whole_number(bytes: &[u8]) -> Option<(i128, &[u8])>
     ensures { IfSome result (λ pair. IsFirstWholeNumber bytes.now (Some pair.0) pair.1.now) }
@@ -245,8 +248,8 @@ fn short_whole_number(bytes: &[u8]) -> Option<(i128, &[u8])>
     Some((signed(has_sign(word), value as u128), rest))
 }
 
-/// Parses a number of 64 bits at the beginning, if a space or nothing follows it, and returns it with the bytes
-/// after it.
+/// Parses the number at the beginning of `bytes`, and returns it with the bytes after it. `None` if no digit begins
+/// them, if the number doesn't fit 64 bits, or if another byte than a space follows it.
 #[inline(always)]
 fn short_digits(bytes: &[u8]) -> Option<(u64, &[u8])>
     ensures { IfSome result (λ pair. BeginsWithDigits bytes.now pair.0 pair.1.now) }
@@ -288,7 +291,7 @@ pub(crate) fn signed(is_negative: bool, number: u128) -> i128
     }
 }
 
-/// Whether a word ends at this index: a space is there, or the bytes end.
+/// Whether a word ends directly before the index `end`: the byte at `end` is a space, or the bytes end there.
 fn ends_at(bytes: &[u8], end: usize) -> bool
     requires { end ≤ length bytes.now }
     ensures { IsTrue result ↔ (end < length bytes.now → slice_index bytes.now end ≡ 32) }
@@ -296,8 +299,8 @@ fn ends_at(bytes: &[u8], end: usize) -> bool
     end == bytes.len() || bytes[end] == b' '
 }
 
-/// Parses the digits at the beginning, at most `MOST_DIGITS` and no more than fit 64 bits, and returns their value
-/// and count.
+/// Parses the digits at the beginning of `bytes`, at most `MOST_DIGITS` and no more than fit 64 bits, and returns
+/// their value and count: 0 and 0 if there is no digit. Digits beyond these are left.
 #[inline(always)]
 pub(crate) fn leading_number(bytes: &[u8]) -> (u64, usize)
     ensures within { (result.1 ≤ length bytes.now) × (result.1 ≤ MOST_DIGITS) }
@@ -314,7 +317,8 @@ pub(crate) fn leading_number(bytes: &[u8]) -> (u64, usize)
     }
 }
 
-/// Appends a digit to a number. `None` if the byte isn't a digit or the result doesn't fit 64 bits.
+/// Appends the digit `byte` to the decimal number `value`. `None` if the byte isn't a digit or the result doesn't fit
+/// 64 bits.
 fn with_digit(value: u64, byte: u8) -> Option<u64>
     ensures { IfSome result (λ n. (is_digit byte ≡ true) × (n ≡ value * 10 + (byte - 48))) }
 {
@@ -324,7 +328,8 @@ fn with_digit(value: u64, byte: u8) -> Option<u64>
     value.checked_mul(10)?.checked_add((byte - b'0') as u64)
 }
 
-/// Parses the digits at the beginning, and returns their value and count.
+/// Parses the digits at the beginning of `bytes`, which are at most `SHORT_DIGITS`, and returns their value and count:
+/// 0 and 0 if there is no digit.
 #[tactic(auto, using(crate::proofs::Numbers::digits_more, crate::proofs::Numbers::value_more, crate::proofs::Numbers::digit_bounds))]
 #[inline(always)]
 pub(crate) fn leading_digits(bytes: &[u8]) -> (u64, usize)
@@ -344,8 +349,8 @@ pub(crate) fn leading_digits(bytes: &[u8]) -> (u64, usize)
     (value, bytes.len())
 }
 
-/// Parses `BLOCK_DIGITS` digits at the beginning, and returns their value and count: 0 and 0 if there are fewer
-/// digits.
+/// Parses `BLOCK_DIGITS` digits at the beginning of `bytes`, and returns their value and count: 0 and 0 if there
+/// aren't as many digits.
 #[inline(always)]
 fn leading_block(bytes: &[u8]) -> (u64, usize)
     ensures within { result.1 ≤ length bytes.now }
@@ -364,7 +369,7 @@ fn leading_block(bytes: &[u8]) -> (u64, usize)
     }
 }
 
-/// Whether the bytes are only digits. All bytes are tested together.
+/// Whether the bytes are only digits. Tests all bytes, even after one that isn't a digit.
 fn are_digits(block: &[u8]) -> bool
     ensures { result ≡ list_all is_digit block.now }
 {
@@ -375,7 +380,7 @@ fn are_digits(block: &[u8]) -> bool
     all
 }
 
-/// The value of a block of digits.
+/// The value of a block of at most `BLOCK_DIGITS` digits.
 fn block_value(block: &[u8]) -> u64
     requires digits { list_all is_digit block.now ≡ true }
     requires few { length block.now ≤ BLOCK_DIGITS }
@@ -424,7 +429,7 @@ fn is_digit(b: u8) -> bool
     b'0' <= b && b < b'9' + 1
 }
 
-/// The value of digits.
+/// The value of a word of at most `MOST_DIGITS` digits.
 fn value_of(word: &[u8]) -> u128
     requires digits { list_all is_digit word.now ≡ true }
     requires few { length word.now ≤ MOST_DIGITS }

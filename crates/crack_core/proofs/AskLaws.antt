@@ -24,7 +24,7 @@ use Rattle.crack_part.specs.Refusals.{is_key_in}
 use Rattle.crack_part.specs.Upkeep.{is_automatic, is_full}
 use Rattle.crack_core.specs.Steps.{bounds_from, unless, MayLackCell, IsOutcome, tables_of}
 use Rattle.crack_core.proofs.TurnLaws.{turns-along}
-use Rattle.crack_core.specs.Asking.{step_at, Lasts, Asks, AsksCore, AsksEach, AsksInTurn, ReadsParts, counted, summed, rows_told}
+use Rattle.crack_core.specs.Asking.{step_at, Lasts, Asks, AsksCore, AsksEach, AsksInTurn, ReadsParts, counted, summed, total_rows}
 use Rattle.crack_core.specs.declared.turns.PartReply.{PartReply}
 
 -- a refusal
@@ -200,7 +200,7 @@ summed-small (Summed sum) small = (omega (arith, ints, small.0), omega (arith, i
 summed-small (Rows rows) small = (omega (arith, ints), omega (arith, ints))
 
 -- few small replies fit together
-pub rows_told-fit : (replies : List PartReply) → All (λ (r : PartReply). IsSmall r.reply) replies → length replies ≤ 64 → rows_told replies < 2 ^ 64
-rows_told-fit replies small few =
+pub total_rows-fit : (replies : List PartReply) → All (λ (r : PartReply). IsSmall r.reply) replies → length replies ≤ 64 → total_rows replies < 2 ^ 64
+total_rows-fit replies small few =
     let most = sum_by-le (λ (r : PartReply). counted r.reply) 4294967295 replies (λ i d below. counted-small _ (small i d below)) in
     omega (arith, most, few)

@@ -7,13 +7,13 @@ use Rattle.crack_part.specs.Parts.{Part}
 use Rattle.crack_core.specs.Routes.{AreSplits}
 use Rattle.crack_core.specs.Opening.{AreParts}
 
--- the splits, the limits of each partition, and the partitions
+-- what contracts see of a core: the splits, the limits that each partition has, and the partitions
 pub record CoreState : Type 0 where
   pub splits : List Bound
   pub limits : Limits
   pub parts : List Part
 
--- the splits and the limits are valid, and the partitions are those of these splits and limits
+-- the invariant of a core: its splits satisfy `AreSplits`, its limits `AreLimits`, and its partitions `AreParts`
 pub record IsCore (core : CoreState) : Type 0 where
   pub splits : AreSplits core.splits
   pub limited : AreLimits core.limits

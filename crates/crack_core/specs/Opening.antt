@@ -10,24 +10,25 @@ use Rattle.crack_part.specs.Parts.{Part, IsSound}
 use Rattle.crack_core.specs.declared.TheConstants.{MOST_SPLITS}
 use Rattle.crack_core.specs.Routes.{is_rising, keys_of_part}
 
--- the fault of splits, if there is one: `BadSplits` if they don't rise strictly or one isn't 1 to the greatest key;
--- else `TooManyPartitions` if there are more than `MOST_SPLITS`
+-- why these splits are refused: `BadSplits` if they don't rise strictly, or one is 0 or above the greatest key; else
+-- `TooManyPartitions` if there are more than `MOST_SPLITS`; else `None`
 abbrev pub splits_fault : List Bound → Option Refusal
 splits_fault splits = if is_rising 0 splits then (if nat_le (length splits) MOST_SPLITS then None else Some TooManyPartitions) else Some BadSplits
 
--- the fault of limits, if there is one: `BadLimit` if a limit isn't 1 to the greatest of its kind
+-- why these limits are refused: `BadLimit` if one of them is 0 or above the greatest of its kind, else `None`
 abbrev pub limits_fault : Limits → Option Refusal
 limits_fault limits = if are_limits limits then None else Some BadLimit
 
--- the first fault of an opening, if there is one
+-- why an opening is refused: the fault of its splits, else that of its limits; `None` if neither has one
 abbrev pub opening_fault : List Bound → Limits → Option Refusal
 opening_fault splits limits = option_or (splits_fault splits) (limits_fault limits)
 
--- why an opening is refused: for its first fault or, if it has none, for lack of memory
+-- why an opening may be refused: `e` is `fault`, or, if there is no fault, `OutOfMemory`
 abbrev pub MayFault : Option Refusal → Refusal → Type 0
 MayFault fault e = (fault ≡ Some e) ⊎ ((fault ≡ None) × (e ≡ OutOfMemory))
 
--- the partitions of these splits: each is sound, and has the keys between its splits and these limits
+-- there is one partition more than splits: each satisfies its invariant (`IsSound`), and has these limits and the keys
+-- that `keys_of_part` gives for its number
 pub record AreParts (splits : List Bound) (limits : Limits) (parts : List Part) : Type 0 where
   pub count : length parts ≡ length splits + 1
   pub keys : (k : ℕ) (d : Part) → k < length parts → (slice_index_or parts k d).keys ≡ keys_of_part splits k

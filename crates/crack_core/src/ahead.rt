@@ -1,4 +1,5 @@
-//! Lists of deletes and updates read the maps and cells of the next rows ahead.
+//! Reading ahead: a list of deletes or updates reads the map entries and the cells of its next rows before it changes
+//! them.
 ghost use Rattle.std.specs.Prelude.{◌≡◌, ◌≤◌, length, option_and_then, slice_get};
 ghost use Rattle.crack_state.specs.Points.{row_by};
 ghost use Rattle.crack_part.specs.Parts.{Part};
@@ -10,9 +11,10 @@ use crack_row::{Row, RowNo, Serial};
 const ROWS_AHEAD: usize = 16;
 
 impl Core {
-    /// Looks up the rows of a list from `at` on, if `at` is a multiple of `ROWS_AHEAD`. The reads of different rows
-    /// don't wait for one another, as those of one delete or update after another do. Returns a number made of what
-    /// was read, for `keep_reads`.
+    /// Reads ahead in a list of rows, whose row numbers are `parts` and `serials`: if `at` is a multiple of
+    /// `ROWS_AHEAD`, looks up the rows from index `at` on, `ROWS_AHEAD` at most. These reads don't wait for one
+    /// another, whereas the reads of a delete or an update wait for the one before it. Returns a number made of what
+    /// was read, for `keep_reads`; 0 if nothing was read.
     #[inline(always)]
     pub(crate) fn look_ahead(&self, parts: &[u32], serials: &[u64], at: usize) -> u64
         requires within { at ≤ length parts.now }
@@ -24,7 +26,8 @@ impl Core {
         self.read_rows(parts, serials, at)
     }
 
-    /// Looks up the rows of a list from `at` on, `ROWS_AHEAD` at most.
+    /// Looks up the rows with these row numbers from index `at` on, `ROWS_AHEAD` at most. Returns the bitwise
+    /// exclusive or of their keys, where a row that doesn't exist counts as 0.
     #[inline(never)]
     fn read_rows(&self, parts: &[u32], serials: &[u64], at: usize) -> u64
         requires within { at ≤ length parts.now }
@@ -58,7 +61,8 @@ impl Core {
         }
     }
 
-    /// Keeps what was read ahead. Contracts see no change.
+    /// Stores a number made of what was read ahead, so that the compiler doesn't leave the reads out. Contracts see no
+    /// change.
     pub(crate) fn keep_reads(&mut self, seen: u64)
         ensures { self.new ≡ self.old }
     {

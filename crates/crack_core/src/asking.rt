@@ -10,7 +10,7 @@ ghost use Rattle.crack_plain.specs.Plain.{PlainState, IsSmall, reply_to};
 ghost use Rattle.crack_core.specs.Asking.{Inserts, Deletes, Updates, CountsRange, Sums, asking, AsksInTurn};
 ghost use Rattle.crack_core.specs.Routes.{parts_of};
 
-use crate::turns::{AskPart, PartReply, ask_parts, rows_told, sum_told};
+use crate::turns::{AskPart, PartReply, ask_parts, total_rows, total_sum};
 use crate::{Core, Step, only_part};
 use crack_row::{Command, Key, KeyRange, Payload, Policy, Refusal, Reply, Row, RowNo, Serial};
 
@@ -26,7 +26,7 @@ pub enum Query {
 }
 
 impl Query {
-    /// The command that asks one partition this query about a range.
+    /// The command by which one partition is asked this query about this range.
     pub fn over(self, range: KeyRange) -> Command
         ensures { result ≡ asking self range }
     {
@@ -40,7 +40,7 @@ impl Query {
 
 impl Core {
     /// Inserts a row into the partition of its key, and returns its row number. Refused as `step` is, with
-    /// `HistoryFull`, `LifeOver`, `NoCell` and `OutOfMemory`.
+    /// `HistoryFull`, `LifeOver`, `NoCell` or `OutOfMemory`. Costs what the step does, and O(log splits).
     pub fn insert(&mut self, key: Key, payload: Payload) -> Result<RowNo, Refusal>
         ensures inserts { Inserts self.old.limits self.old.splits key payload result self.old.parts
             self.new.parts }
@@ -57,8 +57,8 @@ impl Core {
         }
     }
 
-    /// Deletes a row, and returns it as it was, or `None` if it didn't exist. Refused as `step` is, with
-    /// `NoSuchPartition`, `HistoryFull`, `LifeOver` and `OutOfMemory`.
+    /// Deletes the row with this number, and returns it as it was, or `None` if it didn't exist. Refused as `step` is,
+    /// with `NoSuchPartition`, `HistoryFull`, `LifeOver` or `OutOfMemory`. Costs what the step does.
     pub fn delete(&mut self, row: RowNo) -> Result<Option<Row>, Refusal>
         ensures deletes { Deletes self.old.limits self.old.splits row result self.old.parts self.new.parts }
         ensures opened { (self.new.splits ≡ self.old.splits) × (self.new.limits ≡ self.old.limits) }
@@ -70,8 +70,9 @@ impl Core {
         }
     }
 
-    /// Replaces the key and the payload of a row, which keeps its row number. Returns whether the row exists.
-    /// Refused as `step` is.
+    /// Replaces the key and the payload of the row with this number, which keeps its row number. Returns whether the
+    /// row exists; if it doesn't, no row changes. Refused as `step` is, and so with `KeyOutside` if the new key
+    /// belongs to another partition. Costs what the step does.
     pub fn update(&mut self, row: RowNo, key: Key, payload: Payload) -> Result<bool, Refusal>
         ensures updates { Updates self.old.limits self.old.splits row key payload result self.old.parts
             self.new.parts }
@@ -88,9 +89,10 @@ impl Core {
         }
     }
 
-    /// Counts the rows of a range: asks each partition that has a part of it, in order. Refused with `HistoryFull`,
-    /// `LifeOver` and `OutOfMemory` as `step` is; the partitions before the refusing one have then answered.
-    /// If several partitions are asked, takes memory for a reply of each.
+    /// Counts the rows whose keys are in a range: asks each partition that has a part of the range, in order, by a
+    /// step under this policy. Refused with `HistoryFull`, `LifeOver` or `OutOfMemory` as `step` is; partitions asked
+    /// before the one that refuses have then answered. If several partitions are asked, takes memory for a reply of
+    /// each. Costs what the steps do.
     pub fn count(&mut self, range: KeyRange, policy: Policy) -> Result<u64, Refusal>
         ensures counts { CountsRange self.old.limits self.old.splits policy range result self.old.parts self.new.parts }
         ensures opened { (self.new.splits ≡ self.old.splits) × (self.new.limits ≡ self.old.limits) }
@@ -102,12 +104,13 @@ impl Core {
             };
         }
         match self.ask_range(Query::CountRows, range, policy) {
-            Ok(replies) => Ok(rows_told(replies.as_slice())),
+            Ok(replies) => Ok(total_rows(replies.as_slice())),
             Err(refusal) => Err(refusal),
         }
     }
 
-    /// Sums the payloads of the rows of a range, over all partitions, as `count` does. Refused as `count` is.
+    /// Sums the payloads of the rows whose keys are in a range: asks the partitions as `count` does. Refused as
+    /// `count` is. Costs what the steps do.
     pub fn sum(&mut self, range: KeyRange, policy: Policy) -> Result<i128, Refusal>
         ensures sums { Sums self.old.limits self.old.splits policy range result self.old.parts self.new.parts }
         ensures small { IfOk result (λ sum. (neg_ℤ (pos (2 ^ 102)) ≤ℤ sum) × (sum ≤ℤ pos (2 ^ 102))) }
@@ -120,12 +123,13 @@ impl Core {
             };
         }
         match self.ask_range(Query::SumPayloads, range, policy) {
-            Ok(replies) => Ok(sum_told(replies.as_slice())),
+            Ok(replies) => Ok(total_sum(replies.as_slice())),
             Err(refusal) => Err(refusal),
         }
     }
 
-    /// Asks each partition that has a part of the range, in order, and returns the replies. Refused as `count` is.
+    /// Asks each partition that has a part of the range this query, in order, by a step under this policy. Returns
+    /// their replies, in the same order. Refused as `count` is.
     pub(crate) fn ask_range(
         &mut self,
         query: Query,
@@ -154,7 +158,7 @@ impl AskPart for Core {
 
     ghost asks = { AsksCore };
 
-    /// Asks the partition by one `step`.
+    /// Asks the partition by one `step`. Refused as `step` is.
     fn ask_part(&mut self, part: u32, command: Command, policy: Policy) -> Result<Reply, Refusal> {
         let answered = self.step(Step {
             part,
@@ -188,7 +192,7 @@ fn gone_in(reply: &Reply) -> Option<Row>
     }
 }
 
-/// Whether the reply to an update says that the row exists.
+/// Whether the reply to an update says that the row exists; false for any other reply.
 fn is_changed(reply: &Reply) -> bool
     ensures { (s : PlainState) (serial : Serial) (key : Key) (payload : Payload) →
         reply.now ≡ reply_to s (Update serial key payload) →

@@ -1,4 +1,4 @@
-//! Many calls in one, with lists of the caller.
+//! Many calls in one. The caller provides the lists of their arguments and of their results.
 ghost use Rattle.std.specs.Prelude.{◌≡◌, ◌<◌, ◌≤◌, ◌≤ℤ◌, ◌^◌, neg_ℤ, pos, ℕ, ◌+◌};
 ghost use Rattle.std.specs.Prelude.{length, slice_index_or, IfOk, IfErr, Ok, Err};
 ghost use Rattle.crack_core.specs.Asking.{Inserts, CountsRange, Sums};
@@ -17,12 +17,12 @@ use crack_row::{
 pub struct BulkProgress {
     /// How many calls were answered, from the first on.
     pub done: u64,
-    /// Why the call after them was refused, if one was.
+    /// Why the next call was refused, which ended the list; `None` if all calls were answered.
     pub refusal: Option<Refusal>,
 }
 
 impl BulkProgress {
-    /// All of `count` calls were answered.
+    /// The progress when all of `count` calls were answered.
     fn whole(count: usize) -> BulkProgress
         ensures { result ≡ record { done = count; refusal = None } }
     {
@@ -32,7 +32,7 @@ impl BulkProgress {
         }
     }
 
-    /// `done` calls were answered, and the next one was refused.
+    /// The progress when `done` calls were answered, and the next one was refused.
     fn stopped(done: usize, refusal: Refusal) -> BulkProgress
         ensures { result ≡ record { done = done; refusal = Some refusal } }
     {
@@ -54,7 +54,7 @@ const FARTHEST_HIGH: i64 = 274877906944;
 
 impl Core {
     /// Counts the rows whose keys are `first` to `last`, both included, as `count` does. Refused with `BadRange` if
-    /// `first` is above `last` by more than 1, else as `count` is.
+    /// `first` is above `last` + 1, else as `count` is. Costs what `count` does.
     pub fn count_keys(
         &mut self,
         first: KeyNumber,
@@ -72,7 +72,7 @@ impl Core {
     }
 
     /// Sums the payloads of the rows whose keys are `first` to `last`, both included, as `sum` does. Refused as
-    /// `count_keys` is.
+    /// `count_keys` is. Costs what `sum` does.
     pub fn sum_keys(
         &mut self,
         first: KeyNumber,
@@ -90,9 +90,10 @@ impl Core {
         }
     }
 
-    /// Inserts a row for each key and payload, in order, as `insert` does, and writes its row number: partition and
-    /// serial. Stops at the first refusal. Rows that go into one partition one after the other are inserted by one
-    /// call, which costs less for each than `insert`.
+    /// Inserts a row for each key and payload, in order, as `insert` does, and writes its partition to `parts` and its
+    /// serial to `serials`, at the same index. All lists must have the same length. Stops at the first refusal, which
+    /// the result has. Consecutive rows of one partition are inserted by one call, which costs less per row than
+    /// `insert`.
     pub fn insert_many(
         &mut self,
         keys: &[KeyNumber],
@@ -107,9 +108,9 @@ impl Core {
             (length keys.now) self.old.parts result self.new.parts }
         ensures opened { (self.new.splits ≡ self.old.splits) × (self.new.limits ≡ self.old.limits) }
     {
-        // A run takes all the keys that it looks at but the one that ends it, so none is looked at more than twice. If
-        // memory cuts a run short, the next one begins with the row that found none, and a second refusal ends the
-        // list.
+        // A run inserts each row that it looks at, except one that ends it, so no row is looked at more than twice. If
+        // no memory is found for a row, it ends the run, and the next run begins with it: if again none is found, the
+        // list ends.
         let mut done = 0;
         'runs: while done < keys.len() {
             match self.insert_next(keys, payloads, parts, serials, done) {
@@ -120,8 +121,9 @@ impl Core {
         BulkProgress::whole(keys.len())
     }
 
-    /// Inserts rows from this index on, as many as a run takes, or one if a run takes none, and writes their row
-    /// numbers. Returns how many.
+    /// Inserts the next rows, from index `from` on: as many as `insert_run` inserts or, if it inserts none, one by
+    /// `insert`. Writes their row numbers to `parts` and `serials` at the same indexes, and returns how many rows it
+    /// inserted. Refused as `insert` is; then none is inserted.
     fn insert_next(
         &mut self,
         keys: &[KeyNumber],
@@ -155,7 +157,8 @@ impl Core {
         }
     }
 
-    /// Inserts one row, as `insert` does, and writes its row number at this index. Returns 1.
+    /// Inserts one row, as `insert` does, and writes its row number at index `i` of `parts` and `serials`. Returns 1.
+    /// Refused as `insert` is.
     fn insert_one(
         &mut self,
         key: KeyNumber,
@@ -186,8 +189,9 @@ impl Core {
         }
     }
 
-    /// Deletes rows, in order, as `delete` does, and writes 1 for each that existed and 0 for each that didn't.
-    /// Stops at the first refusal. Each costs what `delete` does.
+    /// Deletes the rows with these partitions and serials, in order, as `delete` does, and writes to `gone` 1 for each
+    /// row that existed and 0 for each that didn't. All lists must have the same length. Stops at the first refusal,
+    /// which the result has. Each row costs what `delete` does.
     pub fn delete_many(&mut self, parts: &[u32], serials: &[u64], gone: &mut [u8]) -> BulkProgress
         requires serials { length serials.now ≡ length parts.now }
         requires gone { length gone.old ≡ length parts.now }
@@ -208,8 +212,9 @@ impl Core {
         BulkProgress::whole(parts.len())
     }
 
-    /// Replaces the keys and the payloads of rows, in order, as `update` does, and writes 1 for each row that
-    /// exists and 0 for each that doesn't. Stops at the first refusal. Each costs what `update` does.
+    /// Replaces the keys and the payloads of the rows with these partitions and serials, in order, as `update` does,
+    /// and writes to `found` 1 for each row that exists and 0 for each that doesn't. All lists must have the same
+    /// length. Stops at the first refusal, which the result has. Each row costs what `update` does.
     pub fn update_many(
         &mut self,
         parts: &[u32],
@@ -241,8 +246,9 @@ impl Core {
         BulkProgress::whole(parts.len())
     }
 
-    /// Counts the rows of each range, from its first key to its last, in order, as `count_keys` does. Stops at the
-    /// first refusal. Each costs what `count` does.
+    /// Counts the rows of each range, from its first key to its last, in order, as `count_keys` does, and writes the
+    /// counts. All lists must have the same length. Stops at the first refusal, which the result has. Each range costs
+    /// what `count` does.
     pub fn count_many(
         &mut self,
         firsts: &[KeyNumber],
@@ -265,8 +271,9 @@ impl Core {
         BulkProgress::whole(firsts.len())
     }
 
-    /// Sums the payloads of each range, from its first key to its last, in order, as `sum_keys` does, and writes
-    /// the low 64 bits of each sum and the bits above them. Stops at the first refusal. Each costs what `sum` does.
+    /// Sums the payloads of each range, from its first key to its last, in order, as `sum_keys` does. Writes the low
+    /// 64 bits of each sum to `lows`, and the bits above them to `highs`. All lists must have the same length. Stops
+    /// at the first refusal, which the result has. Each range costs what `sum` does.
     pub fn sum_many(
         &mut self,
         firsts: &[KeyNumber],
@@ -296,7 +303,7 @@ impl Core {
     }
 }
 
-/// The low 64 bits of a sum, and the bits above them as a signed number. The sum must be from -2^102 to 2^102.
+/// The low 64 bits of a sum, and the bits above them as a signed number. The sum must be from -2^102 to 2^102. O(1).
 pub fn halves(sum: i128) -> (u64, i64)
     requires low { neg_ℤ (pos (2 ^ 102)) ≤ℤ sum }
     requires high { sum ≤ℤ pos (2 ^ 102) }
@@ -309,7 +316,8 @@ pub fn halves(sum: i128) -> (u64, i64)
     (low, high - FARTHEST_HIGH)
 }
 
-/// Writes the row numbers of a run, from this index on. O(rows).
+/// Writes the row numbers of a run from index `from` on: its partition to `parts`, and the serials of its rows, which
+/// rise by 1, to `serials`. O(rows).
 fn number_rows(parts: &mut [u32], serials: &mut [u64], from: usize, run: Run)
     requires parts { from + run.count ≤ length parts.old }
     requires serials { from + run.count ≤ length serials.old }
@@ -325,7 +333,7 @@ fn number_rows(parts: &mut [u32], serials: &mut [u64], from: usize, run: Run)
     }
 }
 
-/// The row number of a partition and a serial.
+/// The row number with this partition and serial.
 fn row_of(part: u32, serial: u64) -> RowNo
     ensures { result ≡ record { part = part; serial = record { 0 = serial } } }
 {

@@ -69,7 +69,8 @@ impl Model for Core {
 
 impl Core {
     /// Opens partitions without rows, one more than splits. Each accepts at most `limit` commands between two
-    /// checkpoints, and has the greatest of the other limits. Refused as `open_with` is.
+    /// checkpoints, which are made only on request, and has the greatest of the other limits. Refused as `open_with`
+    /// is. O(splits).
     pub fn open(alloc: Global, splits: &[Bound], limit: u64) -> Result<Core, Refusal>
         ensures opened { IfOk result (λ core. (core.splits ≡ splits.now) × (core.limits ≡ of_history limit)) }
         ensures fresh { IfOk result (λ core. All (λ (part : Part). table_of part ≡ fresh_table) core.parts) }
@@ -83,9 +84,9 @@ impl Core {
     }
 
     /// Opens partitions without rows, one more than splits, each with these limits. Refused, in this order: with
-    /// `BadSplits` if the splits don't rise strictly or one isn't 1 to `GREATEST_KEY`, with `TooManyPartitions` if
-    /// there are more than `MOST_SPLITS`, with `BadLimit` if a limit isn't 1 to the greatest of its kind, and with
-    /// `OutOfMemory` if no memory is found.
+    /// `BadSplits` if the splits don't rise strictly, or one is 0 or above `GREATEST_KEY`; with `TooManyPartitions` if
+    /// there are more than `MOST_SPLITS`; with `BadLimit` if a limit is 0 or above the greatest of its kind; with
+    /// `OutOfMemory` if no memory is found. O(splits).
     pub fn open_with(alloc: Global, splits: &[Bound], limits: Limits) -> Result<Core, Refusal>
         ensures opened { IfOk result (λ core. (core.splits ≡ splits.now) × (core.limits ≡ limits)) }
         ensures fresh { IfOk result (λ core. All (λ (part : Part). table_of part ≡ fresh_table) core.parts) }
@@ -118,7 +119,7 @@ impl Core {
         let _ = &self.partitions;
     }
 
-    /// The splits: the bounds at which one partition ends and the next begins. Takes no memory.
+    /// The splits: the bounds at which one partition ends and the next begins. Takes no memory. O(1).
     pub fn splits(&self) -> &[Bound]
         ensures value { result.now ≡ self.now.splits }
         ensures good { AreSplits self.now.splits }
@@ -128,15 +129,16 @@ impl Core {
         self.splits.as_slice()
     }
 
-    /// The partition in which a key falls. O(log splits).
+    /// The number of the partition that has this key. O(log splits).
     pub fn route(&self, key: Key) -> u32
         ensures { result ≡ route self.now.splits key.0 }
     {
         routes::route(&self.splits, key)
     }
 
-    /// The partitions that have keys of a range, as the function `parts_of` gives them. Up to 8 take no memory;
-    /// refused with `OutOfMemory` if no memory is found for more.
+    /// The partitions that have keys of a range, in rising order, each with its part of the range, as the function
+    /// `parts_of` gives them. Up to 8 partitions take no memory; refused with `OutOfMemory` if no memory is found for
+    /// more. O(log splits + partitions met).
     pub fn parts_of(&self, range: KeyRange) -> Result<SmallVec<(u32, KeyRange), 8>, Refusal>
         ensures ok { IfOk result (λ parts. parts.items ≡ parts_of self.now.splits range) }
         ensures few { IfOk result (λ parts. length parts.items ≤ length self.now.splits + 1) }
@@ -172,12 +174,12 @@ impl Core {
         }
     }
 
-    /// Performs a step: asks one partition, by one call of `Partition::apply`. Refused, in this order: with
-    /// `NoSuchPartition` if there is no such partition, with `KeyOutside` if the command has a key of another
-    /// partition, with `HistoryFull` if the partition has accepted as many commands as its limit since its last
-    /// checkpoint and upkeep is on request, with `LifeOver` if it has accepted as many as its limit `life` since it
-    /// was opened, with `NoCell` if no cell is free for a row and upkeep frees none, and with `OutOfMemory` if no
-    /// memory is found. Only `OutOfMemory` may leave a change, which `Partition::apply` describes.
+    /// Performs a step: asks one partition, by one call of `Partition::apply`, and costs what that call does. Refused,
+    /// in this order: with `NoSuchPartition` if there is no such partition; with `KeyOutside` if the command has a key
+    /// of another partition; with `HistoryFull` if upkeep is on request and the partition has accepted as many
+    /// commands since its last checkpoint as its limit `history`; with `LifeOver` if it has accepted as many since it
+    /// was opened as its limit `life`; with `NoCell` if no cell is free for a row and upkeep frees none; with
+    /// `OutOfMemory` if no memory is found. Only `OutOfMemory` may leave a change, which `Partition::apply` describes.
     #[inline(always)]
     pub fn step(&mut self, step: Step) -> Result<Reply, Refusal>
         // The outcome is the reply that the partition's plain rows give, or the refusal that they require. In place
@@ -202,9 +204,9 @@ impl Core {
         ask_at(&mut self.partitions, step)
     }
 
-    /// Performs these steps in order, and returns the outcome of each. A refused step leaves what `step` says, and
-    /// the next one is performed. Refused with `OutOfMemory`, before the first step, if no memory is found for the
-    /// list of the outcomes.
+    /// Performs these steps in order, each as `step` does, and returns the outcome of each. If a step is refused, the
+    /// next one is still performed. The call is refused with `OutOfMemory`, before the first step, if no memory is
+    /// found for the list of the outcomes. Costs what its steps do.
     pub fn run_steps(&mut self, steps: &[Step]) -> Result<Vec<Result<Reply, Refusal>>, Refusal>
         ensures replies { IfOk result (λ results.
             AreExpectedOutcomes self.old.limits self.old.splits (tables_of self.old.parts) (map Job.Perform steps.now)
@@ -225,9 +227,10 @@ impl Core {
         Ok(results)
     }
 
-    /// Makes a checkpoint of one partition, and returns how many commands it had accepted since its previous one;
-    /// that count restarts at 0. Cracks and merges nothing, takes no memory, and changes no later reply. Refused
-    /// with `NoSuchPartition` if there is no such partition; then nothing has changed.
+    /// Makes a checkpoint of one partition, and returns how many commands the partition had accepted since its
+    /// previous one; that count restarts at 0. Cracks and merges nothing, takes no memory, and changes no later reply.
+    /// Refused with `NoSuchPartition` if there is no such partition; then nothing has changed. Costs what
+    /// `Partition::checkpoint` does.
     pub fn checkpoint(&mut self, part: u32) -> Result<u64, Refusal>
         ensures outcome { result ≡ expected_checkpoint (slice_get (tables_of self.old.parts) part) }
         ensures after { tables_of self.new.parts ≡ changed_at checkpointed_table (tables_of self.old.parts)
@@ -240,9 +243,10 @@ impl Core {
         checkpoint_at(&mut self.partitions, part)
     }
 
-    /// Does these jobs in order, and returns the outcome of each. A refused job changes no row, and the next one is
-    /// done. A step that is refused with `OutOfMemory` may have cracked or merged, as `Partition::apply` says. The
-    /// call is refused with `OutOfMemory`, before the first job, if no memory is found for the list of the outcomes.
+    /// Does these jobs in order, and returns the outcome of each. If a job is refused, it changes no row, and the next
+    /// job is still done. A step that is refused with `OutOfMemory` may have cracked or merged, as `Partition::apply`
+    /// says. The call is refused with `OutOfMemory`, before the first job, if no memory is found for the list of the
+    /// outcomes. Costs what its jobs do.
     pub fn run_jobs(&mut self, jobs: &[Job]) -> Result<Vec<Result<Done, Refusal>>, Refusal>
         ensures replies { IfOk result (λ results.
             AreExpectedOutcomes self.old.limits self.old.splits (tables_of self.old.parts) jobs.now results.items) }
@@ -274,7 +278,7 @@ impl Core {
     }
 }
 
-/// Asks the partition that a step names. Refused as `Core::step` is.
+/// Performs a step on the partition with the step's number. Refused as `Core::step` is.
 #[inline(always)]
 fn ask_at(partitions: &mut [Partition], step: Step) -> Result<Reply, Refusal>
     ensures outcome { (splits : List Bound) (limits : Limits) → AreParts splits limits partitions.old →
@@ -307,7 +311,8 @@ fn ask_at(partitions: &mut [Partition], step: Step) -> Result<Reply, Refusal>
     answered
 }
 
-/// Performs steps in order, and adds the outcome of each to `results`, which must have room.
+/// Performs steps in order, and adds the outcome of each to `results`, which must be empty and have room for all of
+/// them.
 fn run_all(partitions: &mut [Partition], steps: &[Step], results: &mut Vec<Result<Reply, Refusal>>)
     requires empty { results.old.items ≡ [] }
     requires room { length steps.now ≤ vec_capacity results.old }
@@ -370,7 +375,7 @@ fn do_job(partitions: &mut [Partition], job: Job) -> Result<Done, Refusal>
     }
 }
 
-/// The outcome of a step, as the outcome of its job.
+/// The outcome of a step, as the outcome of its job: a reply becomes `Done::Replied`, and a refusal stays as it is.
 fn performed(answered: Result<Reply, Refusal>) -> Result<Done, Refusal>
     ensures { result ≡ mapped Done.Replied answered }
 {
@@ -380,7 +385,8 @@ fn performed(answered: Result<Reply, Refusal>) -> Result<Done, Refusal>
     }
 }
 
-/// The outcome of a checkpoint, as the outcome of its job.
+/// The outcome of a checkpoint, as the outcome of its job: the number of commands becomes `Done::CheckpointMade`, and
+/// a refusal stays as it is.
 fn checkpoint_done(checkpointed: Result<u64, Refusal>) -> Result<Done, Refusal>
     ensures { result ≡ mapped Done.CheckpointMade checkpointed }
 {
@@ -390,7 +396,7 @@ fn checkpoint_done(checkpointed: Result<u64, Refusal>) -> Result<Done, Refusal>
     }
 }
 
-/// Does jobs in order, and adds the outcome of each to `results`, which must have room.
+/// Does jobs in order, and adds the outcome of each to `results`, which must be empty and have room for all of them.
 fn do_all(partitions: &mut [Partition], jobs: &[Job], results: &mut Vec<Result<Done, Refusal>>)
     requires empty { results.old.items ≡ [] }
     requires room { length jobs.now ≤ vec_capacity results.old }

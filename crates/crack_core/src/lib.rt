@@ -19,7 +19,7 @@ pub use cores::Core;
 pub use opening::{limits_fault, open_partitions, splits_fault};
 pub use routes::{keys_of_part, only_part, parts_of, route};
 pub use step::{Done, Job, Step};
-pub use turns::{AskPart, PartReply, ask_parts, rows_told, sum_told};
+pub use turns::{AskPart, PartReply, ask_parts, total_rows, total_sum};
 pub use upkeep::upkeep_is_checkpoints;
 
 /// The greatest number of splits: one less than the greatest number of partitions.

@@ -1,4 +1,4 @@
-//! The rows of a range, written into lists of the caller.
+//! The rows of a range, written into lists that the caller provides.
 ghost use Rattle.std.specs.Prelude.{◌≡◌, ◌+◌, ◌<◌, ◌≤◌, ◌^◌, ℕ, List, ◌++◌, All, length, OnErr};
 ghost use Rattle.crack_row.specs.declared.Row.{Row};
 ghost use Rattle.crack_plain.specs.Plain.{IsSmall};
@@ -10,10 +10,11 @@ use crate::{Core, PartReply, Query};
 use crack_row::{BoundNumber, KeyNumber, KeyRange, PayloadNumber, Policy, Refusal, Row};
 
 impl Core {
-    /// Lists the rows whose keys are `first` to `last`, both included, by partition and then by rising serial.
-    /// Writes the partition, serial, key and payload of as many rows as the lists have room for, and returns how
-    /// many rows there are. Refused as `count_keys` is; the lists are then unchanged. Takes memory for a reply of
-    /// each partition that the range meets.
+    /// Lists the rows whose keys are `first` to `last`, both included, under this policy, by partition and then by
+    /// rising serial. Writes the partition, serial, key and payload of as many rows as the lists have room for, and
+    /// returns how many rows the range has. All lists must have the same length. Refused as `count_keys` is; the lists
+    /// are then unchanged. Takes memory for a reply of each partition that the range meets. Costs what a select in
+    /// each of them does.
     pub fn select_keys(
         &mut self,
         first: KeyNumber,
@@ -39,7 +40,7 @@ impl Core {
         }
     }
 
-    /// Lists the rows of a range, as `select_keys` does. Refused as `count` is.
+    /// Lists the rows of a range, as `select_keys` does. Refused as `count` is; the lists are then unchanged.
     fn select_range(
         &mut self,
         range: KeyRange,
@@ -65,8 +66,8 @@ impl Core {
     }
 }
 
-/// Writes the rows of all replies into the lists, in order, as far as there is room. Returns how many rows the
-/// replies have.
+/// Writes the rows of all replies into the lists, from index 0 on and in order, as far as there is room. Returns how
+/// many rows the replies have, even if not all are written.
 fn list_all(
     replies: &[PartReply],
     parts: &mut [u32],
@@ -92,7 +93,7 @@ fn list_all(
     found as u64
 }
 
-/// Writes the rows of one partition into the lists from index `from` on, as far as there is room.
+/// Writes these rows of the partition `part` into the lists from index `from` on, as far as there is room.
 fn list_rows(
     part: u32,
     rows: &[Row],

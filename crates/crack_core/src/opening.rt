@@ -13,8 +13,9 @@ use crack_part::Partition;
 use crack_row::{Bound, KeyRange, Limits, Refusal};
 use std::alloc::Global;
 
-/// The fault of splits: `BadSplits` if they don't rise strictly or one isn't 1 to `GREATEST_KEY`, else
-/// `TooManyPartitions` if there are more than `MOST_SPLITS`, else `None`. Takes no memory. O(splits).
+/// Why these splits are refused: `BadSplits` if they don't rise strictly, or one is 0 or above `GREATEST_KEY`; else
+/// `TooManyPartitions` if there are more than `MOST_SPLITS`. `None` if they aren't refused. Takes no memory.
+/// O(splits).
 pub fn splits_fault(splits: &[Bound]) -> Option<Refusal>
     ensures value { result ≡ splits_fault splits.now }
     ensures good { result ≡ None → AreSplits splits.now }
@@ -28,7 +29,8 @@ pub fn splits_fault(splits: &[Bound]) -> Option<Refusal>
     None
 }
 
-/// The fault of limits: `BadLimit` if one of them isn't 1 to the greatest of its kind, else `None`.
+/// Why these limits are refused: `BadLimit` if one of them is 0 or above the greatest of its kind. `None` if they
+/// aren't refused. O(1).
 pub fn limits_fault(limits: Limits) -> Option<Refusal>
     ensures value { result ≡ limits_fault limits }
     ensures good { result ≡ None → AreLimits limits }
@@ -39,8 +41,8 @@ pub fn limits_fault(limits: Limits) -> Option<Refusal>
     Some(Refusal::BadLimit)
 }
 
-/// Opens the partitions between these splits, without rows, each with these limits. Refused with `OutOfMemory` if
-/// no memory is found. O(splits).
+/// Opens the partitions between these splits, without rows, each with these limits. `splits_fault` and `limits_fault`
+/// must find no fault. Refused with `OutOfMemory` if no memory is found. O(splits).
 pub fn open_partitions(
     alloc: Global,
     splits: &[Bound],

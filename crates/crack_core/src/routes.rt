@@ -9,8 +9,8 @@ use crack_row::{Bound, Key, KeyRange, Refusal};
 use smallvec::SmallVec;
 use std::alloc::Global;
 
-/// The number of a key's partition: partition 0 has the keys below the first split, and each later partition has
-/// those from the split before it on. O(log splits).
+/// The number of a key's partition: partition 0 has the keys below the first split, and each later partition has the
+/// keys from the split before it up to the next split. O(log splits).
 pub fn route(splits: &[Bound], key: Key) -> u32
     requires { AreSplits splits.now }
     ensures value { result ≡ route splits.now key.0 }
@@ -47,8 +47,8 @@ pub fn parts_of(
     Ok(parts)
 }
 
-/// The only partition that has keys of a range, or the partition of an empty range's low end; `None` if several
-/// partitions have keys of it. Takes no memory. O(log splits).
+/// The only partition that has keys of a range; for an empty range, the partition in which its low end falls. `None`
+/// if several partitions have keys of the range. Takes no memory. O(log splits).
 pub fn only_part(splits: &[Bound], range: KeyRange) -> Option<u32>
     requires { AreSplits splits.now }
     ensures one { IfSome result (λ part. parts_of splits.now range ≡ (part, range) ∷ []) }
@@ -66,6 +66,7 @@ pub fn only_part(splits: &[Bound], range: KeyRange) -> Option<u32>
 }
 
 /// The keys of the partition with this number: from the split before it up to, but not including, the split after it.
+/// The first partition begins at key 0, and the last one ends at the greatest bound. O(1).
 pub fn keys_of_part(splits: &[Bound], part: usize) -> KeyRange
     requires splits { AreSplits splits.now }
     requires there { part ≤ length splits.now }
@@ -79,7 +80,8 @@ pub fn keys_of_part(splits: &[Bound], part: usize) -> KeyRange
     }
 }
 
-/// Adds the partitions from `first` to `last`, both included, to `parts`, each with its part of the range.
+/// Adds the partitions from `first` to `last`, both included, to `parts`, each with its part of the range. `parts`
+/// must be empty and have room for them.
 fn push_parts(
     parts: &mut SmallVec<(u32, KeyRange), 8>,
     splits: &[Bound],
@@ -120,7 +122,7 @@ fn splits_below(splits: &[Bound], bound: Bound) -> usize
     splits.partition_point(|split| *split < bound)
 }
 
-/// The low end of a partition's keys.
+/// The low end of a partition's keys: the split before it, or 0 if it is the first.
 fn low_end(splits: &[Bound], part: usize) -> Bound
     requires { part ≤ length splits.now }
     ensures { result.0 ≡ (keys_of_part splits.now part).low }
@@ -132,7 +134,7 @@ fn low_end(splits: &[Bound], part: usize) -> Bound
     }
 }
 
-/// The high end of a partition's keys.
+/// The high end of a partition's keys: the split after it, or the greatest bound if there is none.
 fn high_end(splits: &[Bound], part: usize) -> Bound
     ensures { result.0 ≡ (keys_of_part splits.now part).high }
 {

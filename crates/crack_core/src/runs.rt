@@ -24,8 +24,9 @@ pub(crate) struct Run {
 }
 
 impl Core {
-    /// Inserts rows, the first ones of these lists, into the partition of the first key, as
-    /// `Partition::insert_run` does.
+    /// Inserts the first rows of these lists of keys and payloads into the partition of the first key, as many as
+    /// `Partition::insert_run` takes, which may be none, and returns them as a run. Refused with `OutOfMemory` if no
+    /// memory is found for the first row.
     pub(crate) fn insert_run(
         &mut self,
         keys: &[KeyNumber],
@@ -46,7 +47,8 @@ impl Core {
     }
 }
 
-/// Inserts rows, the first ones of these lists, into the partition with this number.
+/// Inserts the first rows of these lists into the partition with this number, as many as `Partition::insert_run`
+/// takes, and returns them as a run. Refused as `Partition::insert_run` is.
 fn run_at(
     partitions: &mut [Partition],
     part: u32,

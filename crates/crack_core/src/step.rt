@@ -53,6 +53,6 @@ pub enum Job {
 pub enum Done {
     /// A step was performed, with this reply.
     Replied(Reply),
-    /// A checkpoint was made: how many commands the partition had accepted since the one before.
+    /// A checkpoint was made: how many commands the partition had accepted since its previous checkpoint.
     CheckpointMade(u64),
 }

@@ -3,7 +3,7 @@ ghost use Rattle.std.specs.Prelude.{◌≡◌, ◌⊎◌, ◌<◌, ◌≤◌, �
 ghost use Rattle.std.specs.Prelude.{Ok, Err, IfOk, IfErr};
 ghost use Rattle.std.specs.Result.{result_and};
 ghost use Rattle.crack_plain.specs.Plain.{IsSmall};
-ghost use Rattle.crack_core.specs.Asking.{AsksEach, asking, counted, summed, rows_told, sum_told};
+ghost use Rattle.crack_core.specs.Asking.{AsksEach, asking, counted, summed, total_rows, total_sum};
 ghost use Rattle.crack_core.specs.Listing.{rows_listed};
 
 use crate::Query;
@@ -18,10 +18,11 @@ pub trait AskPart {
     ghost use Rattle.crack_row.specs.declared.command.Reply.{Reply};
     ghost use Rattle.crack_row.specs.declared.refusal.Refusal.{Refusal};
 
-    /// How asking a partition changes the state, by its number, the command, the policy and the outcome.
+    /// The effect of asking a partition: relates the state before, the partition's number, the command, the policy,
+    /// the outcome and the state after.
     ghost asks: { Self → ℕ → Command → Policy → Result Reply Refusal → Self → Type 0 };
 
-    /// Asks the partition with this number one command.
+    /// Asks the partition with this number one command under this policy, and returns its reply, or why it refuses.
     fn ask_part(&mut self, part: u32, command: Command, policy: Policy) -> Result<Reply, Refusal>
         ensures asks { asks self.old part command policy result self.new }
         ensures small { IfOk result IsSmall };
@@ -56,7 +57,7 @@ impl PartReply {
         }
     }
 
-    /// The rows that the reply lists: none if it isn't the reply to a select.
+    /// The rows that the reply lists: none if it isn't the reply to a select. O(1).
     pub fn rows(&self) -> &[Row]
         ensures { result.now ≡ rows_listed self.now.reply }
     {
@@ -67,9 +68,9 @@ impl PartReply {
     }
 }
 
-/// Asks partitions in order, each for its part of a range, and returns their replies. Stops at the first refusal,
-/// and returns it. Refused with `OutOfMemory`, before the first is asked, if no memory is found for a reply of
-/// each.
+/// Asks these partitions a query, in order, each about its own part of a range, and returns their replies. Stops at
+/// the first refusal, and returns it. Refused with `OutOfMemory`, before any partition is asked, if no memory is found
+/// for the list of the replies. Costs what the partitions' commands do.
 pub fn ask_parts<A: AskPart>(
     alloc: Global,
     partitions: &mut A,
@@ -93,8 +94,8 @@ pub fn ask_parts<A: AskPart>(
     }
 }
 
-/// Asks partitions in order, and adds their replies to `replies`, which must have room. Stops at the first refusal,
-/// and returns it.
+/// Asks these partitions a query, in order, each about its own part of a range, and adds their replies to `replies`,
+/// which must be empty and have room for all of them. Stops at the first refusal, and returns it.
 #[inline(never)]
 fn ask_each<A: AskPart>(
     partitions: &mut A,
@@ -122,10 +123,10 @@ fn ask_each<A: AskPart>(
     Ok(())
 }
 
-/// How many rows replies count or list in total.
-pub fn rows_told(replies: &[PartReply]) -> u64
-    requires { rows_told replies.now < 2 ^ 64 }
-    ensures { result ≡ rows_told replies.now }
+/// How many rows these replies count or list in total, which must be less than 2^64. O(replies).
+pub fn total_rows(replies: &[PartReply]) -> u64
+    requires { total_rows replies.now < 2 ^ 64 }
+    ensures { result ≡ total_rows replies.now }
 {
     let mut total = 0;
     'replies: for reply in replies {
@@ -134,11 +135,11 @@ pub fn rows_told(replies: &[PartReply]) -> u64
     total
 }
 
-/// The sum of the sums in replies, from -2^102 to 2^102.
-pub fn sum_told(replies: &[PartReply]) -> i128
+/// The total of the sums in these replies, at most 64 of them. It is from -2^102 to 2^102. O(replies).
+pub fn total_sum(replies: &[PartReply]) -> i128
     requires small { All (λ (r : PartReply). IsSmall r.reply) replies.now }
     requires few { length replies.now ≤ 64 }
-    ensures value { result ≡ sum_told replies.now }
+    ensures value { result ≡ total_sum replies.now }
     ensures small { (neg_ℤ (pos (2 ^ 102)) ≤ℤ result) × (result ≤ℤ pos (2 ^ 102)) }
 {
     let mut total = 0;

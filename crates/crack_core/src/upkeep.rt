@@ -8,8 +8,9 @@ ghost use Rattle.crack_core.specs.declared.step.Done.{Done};
 
 use crate::Core;
 
-/// States that automatic upkeep has the effect of requested checkpoints, and does nothing: after any jobs, a
-/// partition is as it would be if each checkpoint that upkeep made had been requested as a job before its step.
+/// States that automatic upkeep has the effect of requested checkpoints, and does nothing. The statement: after any
+/// jobs under automatic upkeep, a partition has the same plain table as under upkeep on request, if each checkpoint
+/// that automatic upkeep made is requested as a job right before the step for which it was made.
 pub fn upkeep_is_checkpoints(core: &Core)
     ensures { (part : ℕ) (jobs : List Job) (results : List (Result Done Refusal)) (table : PlainView) →
         IsKeptUp core.now.limits part jobs results table }

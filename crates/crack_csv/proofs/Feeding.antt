@@ -73,7 +73,7 @@ module _ {D : Type 0} (bounds : D → Bounds) (splits : D → List Bound) (table
     bytes = bytes;
     bytes_are = are;
     asked = stopped-asked bounds splits tables accepted leads policy origin bytes it first;
-    told = λ rows e. stopped-cut bounds splits tables accepted leads policy origin bytes rows it first e;
+    if_known = λ rows e. stopped-cut bounds splits tables accepted leads policy origin bytes rows it first e;
     accepted_are = it.accepted_are;
     splits_are = it.splits_are;
     bounds_are = it.bounds_are;
@@ -115,7 +115,7 @@ module _ {D : Type 0} (bounds : D → Bounds) (splits : D → List Bound) (table
         bytes = o.all;
         bytes_are = o.all_is;
         asked = subst (λ (z : List ℕ). IsAskedFirst leads (splits origin) policy z fault origin now) (sym o.split) (unread-asked bounds splits tables accepted leads policy origin r.bytes o.rest fault r.has same cause);
-        told = λ rows e. subst (λ (z : List ℕ). IsCutShort (bounds origin) (splits origin) rows z fault (tables now)) (sym o.split) (unread-cut bounds splits tables accepted leads policy origin r.bytes o.rest rows fault r.has same cause e);
+        if_known = λ rows e. subst (λ (z : List ℕ). IsCutShort (bounds origin) (splits origin) rows z fault (tables now)) (sym o.split) (unread-cut bounds splits tables accepted leads policy origin r.bytes o.rest rows fault r.has same cause e);
         accepted_are = r.has.loaded.accepted_are ∙ ap (λ (n : ℕ). accepted origin + n) (sym same);
         splits_are = r.has.loaded.splits_are;
         bounds_are = r.has.loaded.bounds_are;

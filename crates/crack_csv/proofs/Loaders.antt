@@ -75,7 +75,7 @@ module _ {D : Type 0} (bounds : D → Bounds) (splits : D → List Bound) (table
     calls = [];
     were = refl;
     are = record { rows = []; are = refl; count_is = refl; each = tt };
-    told = λ known e. record { rows = []; are = refl; count_is = refl; left_is = e };
+    if_known = λ known e. record { rows = []; are = refl; count_is = refl; left_is = e };
     accepted_are = omega arith;
     splits_are = refl;
     bounds_are = refl;
@@ -96,7 +96,7 @@ module _ {D : Type 0} (bounds : D → Bounds) (splits : D → List Bound) (table
           count_is = was.are.count_is;
           each = was.are.each;
         };
-        told = λ known e. AreInserted-header records fields (number + 1) next header (was.told known e);
+        if_known = λ known e. AreInserted-header records fields (number + 1) next header (was.if_known known e);
         accepted_are = was.accepted_are;
         splits_are = was.splits_are;
         bounds_are = was.bounds_are;
@@ -122,8 +122,8 @@ module _ {D : Type 0} (bounds : D → Bounds) (splits : D → List Bound) (table
           count_is = let l = length-append was.are.rows (asked.0 ∷ []) in let c = was.are.count_is in omega (arith, l, c);
           each = AllZip-add (IsAnswered (splits origin) policy) was.are.rows was.calls asked.0 (insertion (splits origin) policy asked.0 (Ok asked.2)) was.are.each (asked.2, refl);
         };
-        told = λ known e.
-            let so_far = was.told known e in
+        if_known = λ known e.
+            let so_far = was.if_known known e in
             let rows = fold (tables_with_row (bounds origin) (splits origin)) known so_far.rows in
             AreInserted-push records fields (tables next) so_far other
             (subst (λ (b : Bounds). BringsRow b (splits origin) rows fields (tables next)) was.bounds_are (subst (λ (s : List Bound). BringsRow (bounds now) s rows fields (tables next)) was.splits_are (brings rows so_far.left_is)));
@@ -152,7 +152,7 @@ module _ {D : Type 0} (bounds : D → Bounds) (splits : D → List Bound) (table
         last = last;
         was = called;
         cause = rw (after, ← was.splits_are) cause;
-        told = λ known e. rw (after, ← was.splits_are, ← was.bounds_are) (told known e);
+        if_known = λ known e. rw (after, ← was.splits_are, ← was.bounds_are) (told known e);
         accepted_are = none ∙ was.accepted_are;
         splits_are = same_splits ∙ was.splits_are;
         bounds_are = same_bounds ∙ was.bounds_are;
@@ -306,7 +306,7 @@ module _ {D : Type 0} (bounds : D → Bounds) (splits : D → List Bound) (table
       let all = are_all st.StartRecord (strip_bom bytes) in
       record {
         asked = (all_records_in bytes, all, was.calls, was.were, was.are);
-        told = λ known e. record { records = all_records_in bytes; all = all; inserted = was.told known e };
+        if_known = λ known e. record { records = all_records_in bytes; all = all; inserted = was.if_known known e };
         accepted_are = was.accepted_are;
         splits_are = was.splits_are;
         bounds_are = was.bounds_are;

@@ -77,8 +77,8 @@ module _ {D : Type 0} (bounds : D → Bounds) (splits : D → List Bound) (table
   pub stopped-cut : {records : List Fields} {fault : LoadFault} {now : D} (bytes : List ℕ) (known : List PlainView) → HasStopped bounds splits tables accepted leads policy origin records fault now → HasFirst bytes records → tables origin ≡ Some known
       → IsCutShort (bounds origin) (splits origin) known bytes fault (tables now)
   stopped-cut bytes known it front e =
-      let was = it.loaded.told known e in
-      let after = it.told _ was.left_is in
+      let was = it.loaded.if_known known e in
+      let after = it.if_known _ was.left_is in
       record {
         records = it.first;
         first = front it.first (it.fields ∷ []) it.split;
@@ -113,6 +113,6 @@ module _ {D : Type 0} (bounds : D → Bounds) (splits : D → List Bound) (table
   unread-cut {s} {now} bytes more known fault it same cause h = record {
     records = records_in bytes;
     first = first_of bytes more (records_in bytes) [] (sym (append-nil (records_in bytes)));
-    inserted = subst (λ (n : ℕ). AreInserted (bounds origin) (splits origin) known (records_in bytes) n (tables now)) (sym same) (it.loaded.told known h);
+    inserted = subst (λ (n : ℕ). AreInserted (bounds origin) (splits origin) known (records_in bytes) n (tables now)) (sym same) (it.loaded.if_known known h);
     cause = inl cause;
   }

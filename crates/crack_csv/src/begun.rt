@@ -30,10 +30,10 @@ pub(crate) enum Place {
     AfterReturn,
 }
 
-/// The effect of a byte.
+/// The effect of a byte on the unfinished record.
 #[derive(Clone, Copy, PartialEq, Eq, Debug)]
 enum Effect {
-    /// The byte has none.
+    /// The byte has no effect.
     Skip,
     /// The byte is added to the field.
     Copy,
@@ -43,8 +43,8 @@ enum Effect {
     EndRecord,
 }
 
-/// What is kept of the unfinished record: the place of the next byte, how many fields are whole, where 3 stands for
-/// any greater number too, and the first bytes of the first two fields. It takes no memory.
+/// What is kept of the unfinished record: the place of the next byte, how many fields have ended (3 stands for any
+/// greater number too), and the first bytes of the first two fields. It takes no memory.
 #[derive(Drop)]
 pub(crate) struct BegunRecord {
     place: Place,
@@ -67,7 +67,7 @@ impl Model for BegunRecord {
 }
 
 impl BegunRecord {
-    /// What is kept before the first byte of a text.
+    /// The record before the first byte of a text: nothing of it is kept yet.
     pub(crate) fn new() -> BegunRecord
         ensures { result ≡ kept_of_record (none_begun st.StartRecord) }
     {
@@ -79,7 +79,8 @@ impl BegunRecord {
         }
     }
 
-    /// Takes one more byte, and returns whether it ends the record.
+    /// Takes one more byte, and returns whether the byte ends the record. If it does, the ended record's fields are
+    /// kept until `clear`.
     #[inline(always)]
     pub(crate) fn take(&mut self, byte: u8) -> bool
         ensures kept { self.new ≡ kept_with self.old byte }
@@ -104,7 +105,8 @@ impl BegunRecord {
         }
     }
 
-    /// Takes the end of the input, and returns whether it ends a record: false if none is begun.
+    /// Takes the end of the input. If a record has begun, this ends its last field and the record, even inside quotes:
+    /// returns `true`, and the record's fields are kept until `clear`. Otherwise returns `false`, and nothing changes.
     pub(crate) fn end(&mut self) -> bool
         ensures kept { result ≡ true → self.new ≡ kept_by act.EndRecord 0 self.old }
         ensures same { result ≡ false → self.new ≡ self.old }
@@ -119,7 +121,8 @@ impl BegunRecord {
         }
     }
 
-    /// The kept bytes of the two fields; `None` unless exactly two are whole.
+    /// The first bytes of the first and second field, at most `FIELD_BYTES` of each; `None` unless exactly two fields
+    /// have ended.
     pub(crate) fn fields(&self) -> Option<(&[u8], &[u8])>
         ensures some { IfSome result (λ pair. (self.now.whole ≡ 2) × (pair.0.now ≡ self.now.first)
             × (pair.1.now ≡ self.now.second)) }
@@ -132,7 +135,7 @@ impl BegunRecord {
         }
     }
 
-    /// Begins another record; the place of the next byte stays as it is.
+    /// Drops what is kept of the fields, so that another record can begin; the place of the next byte stays as it is.
     #[inline(always)]
     pub(crate) fn clear(&mut self)
         ensures { self.new ≡ kept_of_record (none_begun self.old.state) }
@@ -142,7 +145,7 @@ impl BegunRecord {
         self.second.clear();
     }
 
-    /// Begins another record at the start of a text.
+    /// Drops what is kept of the fields, and sets the place of the next byte to the start of a text.
     pub(crate) fn restart(&mut self)
         ensures { self.new ≡ kept_of_record (none_begun st.StartRecord) }
     {
@@ -150,7 +153,7 @@ impl BegunRecord {
         self.clear();
     }
 
-    /// Adds a byte to the current field, if that is one of the first two and has room.
+    /// Adds a byte to what is kept of the current field, if that is the first or second field and there is room.
     #[inline(always)]
     fn copy(&mut self, byte: u8)
         ensures { self.new ≡ kept_by act.Copy byte self.old }
@@ -162,7 +165,7 @@ impl BegunRecord {
         }
     }
 
-    /// Ends the current field.
+    /// Counts the current field as ended; counts no further than 3.
     #[inline(always)]
     fn end_field(&mut self)
         ensures { self.new ≡ kept_by act.EndField 0 self.old }
@@ -171,7 +174,7 @@ impl BegunRecord {
     }
 }
 
-/// Adds a byte to a field, if there is room.
+/// Adds a byte to what is kept of a field, if that has fewer than `FIELD_BYTES` bytes.
 #[inline(always)]
 fn keep(field: &mut ArrayVec<u8, FIELD_BYTES>, byte: u8)
     ensures { field.new.items ≡ take FIELD_BYTES (field.old.items ++ byte ∷ []) }
@@ -181,7 +184,8 @@ fn keep(field: &mut ArrayVec<u8, FIELD_BYTES>, byte: u8)
     }
 }
 
-/// The place after a byte, and the effect of the byte, by the defaults of the `csv` crate.
+/// The place that follows a byte at this place, and the byte's effect: what the `csv` crate's reader does with the
+/// byte under default settings.
 #[inline(always)]
 fn behind(place: Place, byte: u8) -> (Place, Effect)
     ensures place { reader_state result.0 ≡ (step default_config (reader_state place) byte).0 }

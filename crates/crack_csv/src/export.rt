@@ -19,9 +19,10 @@ use crack_session::{Desk, Output};
 use std::io::Write;
 
 /// Writes the header `key,payload` and then a record for each row, and returns how many rows there were. Records end
-/// with a line feed. Each partition is asked by one command, which counts like any other, to list all its rows. The
-/// output is flushed at the end. The first refusal ends the export: `HistoryFull`, `GateGaveUp`, `OutOfMemory` or
-/// `LifeOver` of a partition, or `WriteFault`. The rows of one partition at a time are in memory; the texts take none.
+/// with a line feed. Each partition is asked by one command under this policy, which counts like any other, to list
+/// all its rows. The output is flushed at the end. The first refusal ends the export: `HistoryFull`, `GateGaveUp`,
+/// `OutOfMemory` or `LifeOver` of a partition, or `WriteFault` if the writer fails. Takes memory for the rows of one
+/// partition at a time. Costs what a select of each partition's rows does, and O(1) for each record.
 pub fn export_csv<D: Desk, W: Write>(
     desk: &mut D,
     policy: Policy,
@@ -76,8 +77,9 @@ pub fn leaves_no_row_out(core: &Core)
     core.recall_invariant();
 }
 
-/// Lists all rows of one partition, writes a record for each, and returns how many there are. Refused as the desk
-/// refuses the command, and with `WriteFault` if the writer fails.
+/// Lists all rows of the partition with this number, by one command under this policy, writes a record for each, and
+/// returns how many there are. The buffer `out` is empty before and after. Refused as the desk refuses the command,
+/// and with `WriteFault` if the writer fails.
 fn export_part<D: Desk, W: Write>(
     desk: &mut D,
     policy: Policy,
@@ -129,8 +131,8 @@ fn listed(reply: &Reply) -> &[Row]
     }
 }
 
-/// Writes a record for each row: fills the output, and writes it each time it is full and at the end. Refused with
-/// `WriteFault` if the writer fails.
+/// Writes a record for each row: adds records to the buffer `out`, and writes the buffer each time it is full and at
+/// the end. `out` is empty before and after. Refused with `WriteFault` if the writer fails.
 fn write_rows<W: Write>(
     rows: &[Row],
     writer: &mut Watched<W>,
@@ -150,8 +152,8 @@ fn write_rows<W: Write>(
     Ok(())
 }
 
-/// Adds records of the rows from index `at` on while there is room, and returns the index of the first row that
-/// isn't added.
+/// Adds the records of the rows from index `at` on to the empty buffer `out`, as many as have room, and returns the
+/// index of the first row whose record isn't added.
 fn push_rows(rows: &[Row], at: usize, out: &mut Output) -> usize
     requires there { at < length rows.now }
     requires empty { out.old.items ≡ [] }
@@ -168,7 +170,8 @@ fn push_rows(rows: &[Row], at: usize, out: &mut Output) -> usize
     next
 }
 
-/// Writes the output, and empties it. Refused with `WriteFault` if the writer fails.
+/// Writes the buffer `out`, and empties it. Refused with `WriteFault` if the writer fails; the buffer is then empty
+/// too.
 fn send_all<W: Write>(writer: &mut Watched<W>, out: &mut Output) -> Result<(), Refusal>
     ensures writes { Writes W.contents out.old.items result writer.old writer.new }
     ensures empty { out.new.items ≡ [] }

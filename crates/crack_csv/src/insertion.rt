@@ -13,7 +13,7 @@ use crack_core::route;
 use crack_row::{Command, Policy, Refusal};
 use crack_session::Desk;
 
-/// Inserts a row into the partition of its key, by one command. Refused as `Desk::ask` is.
+/// Inserts a row into the partition of its key, by one command under this policy. Refused as `Desk::ask` is.
 pub(crate) fn insert_row<D: Desk>(desk: &mut D, policy: Policy, row: NewRow) -> Result<(), Refusal>
     ensures inserted { OnOk result ((tables : List PlainView) → D.tables desk.old ≡ Some tables →
         D.tables desk.new ≡ Some (tables_with_row (D.bounds desk.old) (D.splits desk.old) tables row)) }

@@ -24,12 +24,13 @@ pub struct LoadFault {
     pub loaded: u64,
 }
 
-/// Inserts the row of each record in a reader's bytes, in order, each into the partition of its key, and returns
-/// how many rows it inserted. A first record of the fields `key` and `payload` is a header, and is skipped. Commas
-/// separate fields, which may be in double quotes. The first refusal ends the load: `BadRecord` if a record doesn't
-/// have two fields, or a field isn't a number of 1 to 20 digits in range, for a payload with or without a minus
-/// sign; `ReadFault` if the reader fails, or has one more record than `MOST_RECORDS`; or as the desk refuses an
-/// insert. Takes only the memory that the desk takes.
+/// Inserts the row of each record in a reader's bytes, in order, each into the partition of its key, under this
+/// policy. Returns how many rows it inserted. Commas separate fields, which may be in double quotes. If the first
+/// record has the fields `key` and `payload`, it is a header, and is skipped. A row is a record of two fields, a key
+/// and a payload: numbers of 1 to 20 digits in their ranges, the payload with or without a minus sign. The first
+/// refusal ends the load: with `BadRecord` if a record isn't a row; with `ReadFault` if the reader fails, or if there
+/// are more records than `MOST_RECORDS`, not counting a header; or as the desk refuses an insert. Takes only the
+/// memory that the desk takes. O(bytes), besides the inserts.
 pub fn load_csv<D: Desk, R: Read>(
     desk: &mut D,
     policy: Policy,
@@ -39,7 +40,7 @@ pub fn load_csv<D: Desk, R: Read>(
     // order, each once and under this policy. If the reader's bytes are known, they are these bytes.
     ensures asks { IfOk result (λ count. (bytes : List ℕ) × AreBytesOf (R.remaining (device reader.old)) bytes
         × IsAskedAll D.leads (D.splits desk.old) policy bytes count desk.old desk.new) }
-    // On a fault, the desk was asked for the first of these inserts, and the last call may be the refused one.
+    // On a fault, the desk executed the first ones of these inserts, and the last call may be a refused one.
     ensures asks_in_part { IfErr result (λ fault. (bytes : List ℕ) × AreBytesOf (R.remaining (device reader.old)) bytes
         × IsAskedFirst D.leads (D.splits desk.old) policy bytes fault desk.old desk.new) }
     // If the rows are known, the rows of all records are added to them.
@@ -65,8 +66,8 @@ pub fn load_csv<D: Desk, R: Read>(
     load_reads(desk, &mut loader, reader)
 }
 
-/// Feeds the bytes of a reader to a new loader, up to the end of the input, and returns how many rows were
-/// inserted. Refused as `load_csv` is.
+/// Feeds the bytes of a reader, up to the end of the input, to a loader that has taken no bytes, and returns how many
+/// rows were inserted. Refused as `load_csv` is.
 fn load_reads<D: Desk, R: Read>(
     desk: &mut D,
     loader: &mut Loader,
@@ -97,7 +98,7 @@ fn load_reads<D: Desk, R: Read>(
     Err(unread(loader))
 }
 
-/// The fault of a load whose reader's bytes can't be read to their end.
+/// The fault of a load whose reader's bytes can't be read to their end: `ReadFault`, and how many rows were inserted.
 fn unread(loader: &Loader) -> LoadFault
     ensures { result ≡ record { refusal = Refusal.ReadFault; loaded = loader.now.loaded } }
 {

@@ -22,7 +22,9 @@ use crack_row::{Policy, Refusal};
 use crack_session::Desk;
 use std::marker::Model;
 
-/// A load between two calls of `feed`: its policy, counts and unfinished record. It takes no memory.
+/// A load between two calls of `feed`: its policy, counts and unfinished record. `head` is how many bytes of a byte
+/// order mark were taken, or 3 if no more can follow. `number` is how many records have ended, and `loaded` how many
+/// rows were inserted. It takes no memory.
 #[derive(Drop)]
 pub struct Loader {
     policy: Policy,
@@ -51,7 +53,7 @@ impl Model for Loader {
 }
 
 impl Loader {
-    /// A new load under this policy.
+    /// A loader that has taken no bytes, and inserts rows under this policy. O(1).
     pub fn new(policy: Policy) -> Loader
         ensures { result ≡ record {
           policy = policy;
@@ -70,7 +72,7 @@ impl Loader {
         }
     }
 
-    /// How many rows were inserted.
+    /// How many rows were inserted. O(1).
     pub fn loaded(&self) -> u64
         ensures value { result ≡ self.now.loaded }
         ensures few { result ≤ MOST_RECORDS }
@@ -78,8 +80,10 @@ impl Loader {
         self.loaded
     }
 
-    /// Takes the next bytes of the text, and inserts the rows of the records that they finish, in order. The first
-    /// record that is refused ends the load, with a `LoadFault`; the loader must not be fed after that.
+    /// Takes the next bytes of the text, and inserts the row of each record that ends in them, in order. The first
+    /// record that is refused ends the load: with `ReadFault` if `MOST_RECORDS` rows are already inserted, with
+    /// `BadRecord` if it isn't a row, or as the desk refuses the insert. The loader must not be fed after that.
+    /// O(bytes), besides the inserts.
     pub fn feed<D: Desk>(&mut self, desk: &mut D, bytes: &[u8]) -> Result<(), LoadFault>
         // Whatever bytes were taken before, the load goes on with these bytes.
         ensures goes_on { OnOk result (Takes D.bounds D.splits D.tables D.accepted D.leads self.old bytes.now desk.old
@@ -100,8 +104,8 @@ impl Loader {
         Ok(())
     }
 
-    /// Takes the end of the text, which finishes an unfinished record, and returns how many rows the load inserted.
-    /// Refused if that record is.
+    /// Takes the end of the text, and inserts the row of the record that it ends, if it ends one. Returns how many
+    /// rows the load inserted. Refused as `feed` is, if that record is refused. O(1), besides the insert.
     pub fn end<D: Desk>(&mut self, desk: &mut D) -> Result<u64, LoadFault>
         // Whatever bytes were taken, the rows of all their records are inserted.
         ensures all { IfOk result (λ count. EndsWith D.bounds D.splits D.tables D.accepted D.leads self.old desk.old
@@ -123,7 +127,8 @@ impl Loader {
         }
     }
 
-    /// Takes the end of the text, and returns whether it ends a record.
+    /// Takes the end of the text. If a record has begun, this ends the record: returns `true`. Otherwise returns
+    /// `false`, and nothing changes.
     fn takes_last(&mut self) -> bool
         ensures ends { result ≡ ends_at_end self.old.kept.state }
         ensures last { result ≡ true → self.new ≡ record self.old { kept = kept_by act.EndRecord 0 self.old.kept } }
@@ -132,8 +137,7 @@ impl Loader {
         self.begun.end()
     }
 
-    /// Takes one more byte, and inserts the row of the record that it finishes, if it finishes one. If that row isn't
-    /// inserted, refused for the same cause.
+    /// Takes one more byte, and inserts the row of the record that it ends, if it ends one. Refused as `finish` is.
     #[inline(always)]
     fn take_byte<D: Desk>(&mut self, desk: &mut D, byte: u8) -> Result<(), Refusal>
         ensures goes_on { OnOk result (Takes D.bounds D.splits D.tables D.accepted D.leads self.old (byte ∷ []) desk.old
@@ -151,8 +155,10 @@ impl Loader {
         Ok(())
     }
 
-    /// Takes note of a byte that may belong to a byte order mark, which isn't part of the text. Returns whether the
-    /// byte is the mark's last one; then the text begins after it.
+    /// Takes a byte, which may be any, and returns whether it is the last byte of a byte order mark that begins the
+    /// text. If it is, drops what is kept of the record, which is the mark's first two bytes, and the caller doesn't
+    /// add the byte to the record. If it isn't, the caller adds it; after a byte that doesn't begin or continue the
+    /// mark, no mark can follow.
     #[inline(always)]
     fn takes_mark(&mut self, byte: u8) -> bool
         ensures marked { result ≡ true → (before : List ℕ) → IsHead self.old.head before →
@@ -174,7 +180,8 @@ impl Loader {
         }
     }
 
-    /// Does what `takes_mark` does, for the first three bytes.
+    /// Does what `takes_mark` does, for a byte at which a byte order mark may still begin or continue; for any other
+    /// byte, returns `false`, and nothing changes.
     #[inline(never)]
     fn takes_last_mark(&mut self, byte: u8) -> bool
         ensures marked { result ≡ true → (self.old.head ≡ 2) × (byte ≡ 0xBF) × (self.new.head ≡ 3) }
@@ -264,14 +271,16 @@ impl Loader {
         self.policy
     }
 
-    /// The row of the record that has ended, or `None` if the record isn't a row.
+    /// The row of the record that has ended, or `None` if the record isn't a row: two fields, a key and a payload in
+    /// range.
     fn next_row(&self) -> Option<NewRow>
         ensures { result ≡ kept_row self.now.kept }
     {
         new_row(&self.begun)
     }
 
-    /// Counts the record that has ended and the rows inserted for it, 1 or 0, and begins another record.
+    /// Counts the record that has ended, and `rows`, the number of rows inserted for it, which is 1 or 0. Begins
+    /// another record.
     fn begin_next(&mut self, rows: u64)
         requires few { self.old.loaded + rows ≤ MOST_RECORDS }
         requires numbered { self.old.number ≤ self.old.loaded + rows }
@@ -286,7 +295,7 @@ impl Loader {
         self.begun.clear();
     }
 
-    /// Takes one more byte of the unfinished record, and returns whether it ends the record.
+    /// Takes one more byte of the unfinished record, and returns whether the byte ends the record.
     #[inline(always)]
     fn takes_end(&mut self, byte: u8) -> bool
         ensures ends { result ≡ is_end (step default_config self.old.kept.state byte).1 }

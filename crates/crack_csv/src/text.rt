@@ -13,7 +13,7 @@ pub const RECORD_BYTES: usize = 42;
 /// The header: a record of the names of the two fields.
 pub const HEADER: &[u8] = b"key,payload\n";
 
-/// Adds the record of a row to a text, which must have room for `RECORD_BYTES` more.
+/// Adds the record of a row to a text, which must have room for `RECORD_BYTES` more. O(1).
 pub fn push_record<const ROOM: usize>(text: &mut ArrayVec<u8, ROOM>, row: &Row)
     requires { length text.old.items + RECORD_BYTES ≤ ROOM }
     ensures { text.new.items ≡ text.old.items ++ record_text row.now }
@@ -24,7 +24,7 @@ pub fn push_record<const ROOM: usize>(text: &mut ArrayVec<u8, ROOM>, row: &Row)
     push(text, b"\n");
 }
 
-/// Adds a key in decimal.
+/// Adds a key in decimal to a text, which must have room for 20 bytes more.
 #[inline(always)]
 fn push_key<const ROOM: usize>(text: &mut ArrayVec<u8, ROOM>, key: Key)
     requires { length text.old.items + 20 ≤ ROOM }
@@ -35,7 +35,7 @@ fn push_key<const ROOM: usize>(text: &mut ArrayVec<u8, ROOM>, key: Key)
     push(text, digits.format(key.number()).as_bytes());
 }
 
-/// Adds a payload in decimal: at most 19 digits and a minus sign.
+/// Adds a payload in decimal, at most 19 digits and a minus sign, to a text, which must have room for 20 bytes more.
 #[inline(always)]
 fn push_payload<const ROOM: usize>(text: &mut ArrayVec<u8, ROOM>, payload: Payload)
     requires { length text.old.items + 20 ≤ ROOM }

@@ -17,7 +17,7 @@ pub struct Sink {
 }
 
 impl Sink {
-    /// Makes a writer that appends to these bytes all that it is given, and fails only if no memory is found.
+    /// Makes a writer that appends to `bytes` all bytes that are written to it, and fails only if no memory is found.
     pub fn new(bytes: Vec<u8>) -> Sink
         ensures bytes { result.bytes ≡ bytes }
         ensures whole { result.most ≡ 2 ^ 64 - 1 }
@@ -38,7 +38,7 @@ impl Sink {
         Sink { most, ..self }
     }
 
-    /// Makes the k-th call (counted from 1) and every later one fail. A failed call accepts no bytes.
+    /// Makes call number `k`, counted from 1, and every later call fail. A failed call accepts no bytes.
     pub fn failing_at(self, k: u64) -> Sink
         ensures { result ≡ record self { fails_at = k } }
     {
@@ -48,14 +48,14 @@ impl Sink {
         }
     }
 
-    /// The initial bytes, and then those accepted.
+    /// The initial bytes, followed by the accepted ones.
     pub fn bytes(&self) -> &[u8]
         ensures { result.now ≡ self.now.bytes.items }
     {
         self.bytes.as_slice()
     }
 
-    /// The initial bytes, and then those accepted.
+    /// The initial bytes, followed by the accepted ones.
     pub fn into_bytes(self) -> Vec<u8>
         ensures { result ≡ self.bytes }
     {
@@ -69,7 +69,8 @@ impl Sink {
         self.calls
     }
 
-    /// Counts a call, and returns whether the call fails.
+    /// Counts a call, and returns whether the call is to fail: whether its number is at least that given to
+    /// `failing_at`.
     fn fails(&mut self) -> bool
         ensures calls { self.new ≡ record self.old { calls = min (self.old.calls + 1) (2 ^ 64 - 1) } }
         ensures fails { result ≡ nat_le self.old.fails_at self.new.calls }
@@ -82,6 +83,9 @@ impl Sink {
 impl Write for Sink {
     ghost contents = { λ s. Some s.bytes.items };
 
+    /// Counts a call, appends the first bytes of `buf`, as many as a write may accept (see `taking`), and returns how
+    /// many. Fails with `BrokenPipe` from the call chosen by `failing_at` on, and with `OutOfMemory` if no memory is
+    /// found; then no byte is appended. O(appended bytes), except for growth.
     fn write(&mut self, buf: &[u8]) -> io::Result<usize>
         ensures bound { WritesAtMost result buf.now }
         ensures bytes { WriteAppends (Some self.old.bytes.items) (Some self.new.bytes.items) result buf.now }
@@ -100,6 +104,7 @@ impl Write for Sink {
         }
     }
 
+    /// Counts a call, and fails with `BrokenPipe` from the call chosen by `failing_at` on. Does nothing else.
     fn flush(&mut self) -> io::Result<()>
         ensures bytes { Keeps (Some self.old.bytes.items) (Some self.new.bytes.items) }
         ensures calls { self.new ≡ record self.old { calls = min (self.old.calls + 1) (2 ^ 64 - 1) } }

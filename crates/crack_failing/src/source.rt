@@ -20,7 +20,7 @@ pub struct Source<'a> {
 }
 
 impl<'a> Source<'a> {
-    /// Makes a reader that fills the buffer at each read as far as it has bytes, and never fails.
+    /// Makes a reader of these bytes, which never fails. Each read fills its buffer as far as bytes are left.
     pub fn new(bytes: &'a [u8]) -> Source<'a>
         ensures bytes { result.bytes.now ≡ bytes.now }
         ensures whole { result.sizes.now ≡ [] }
@@ -34,8 +34,8 @@ impl<'a> Source<'a> {
         }
     }
 
-    /// Limits each read to the next of these sizes, which repeat from the first one; a size of 0 counts as 1.
-    /// Without sizes a read is limited only by its buffer.
+    /// Limits each read to one of these sizes: the first read to the first size, the next to the next, and after the
+    /// last size again the first one. A size of 0 counts as 1. Without sizes a read is limited only by its buffer.
     pub fn cut(self, sizes: &'a [usize]) -> Source<'a>
         ensures sizes { result.sizes.now ≡ sizes.now }
         ensures bytes { result.bytes.now ≡ self.entry.bytes.now }
@@ -44,7 +44,7 @@ impl<'a> Source<'a> {
         Source { sizes, ..self }
     }
 
-    /// Makes the k-th read (counted from 1) and every later one fail. A failed read takes no bytes.
+    /// Makes read number `k`, counted from 1, and every later read fail. A failed read takes no bytes.
     pub fn failing_at(self, k: u64) -> Source<'a>
         ensures fails { result.fails_at ≡ k }
         ensures bytes { result.bytes.now ≡ self.entry.bytes.now }
@@ -56,7 +56,7 @@ impl<'a> Source<'a> {
         }
     }
 
-    /// The bytes of memory that weren't read yet.
+    /// The bytes that weren't read yet.
     pub fn left(&self) -> &'a [u8]
         ensures { result.now ≡ self.now.bytes.now }
     {
@@ -79,6 +79,9 @@ impl<'a> Source<'a> {
 impl Read for Source<'_> {
     ghost remaining = { λ s. Some s.bytes.now };
 
+    /// Counts a read, moves the next bytes into `buf`, and returns how many: as many as the buffer, the size for this
+    /// read and the bytes left allow. Fails with `BrokenPipe` from the read chosen by `failing_at` on; then no byte
+    /// is taken. O(bytes that it returns).
     fn read(&mut self, buf: &mut [u8]) -> io::Result<usize>
         ensures bound { ReadsAtMost result buf.new }
         ensures bytes { ReadConsumes (Some self.old.bytes.now) (Some self.new.bytes.now) result buf.new }

@@ -5,7 +5,7 @@ use Rattle.std.proofs.lemmas.Int.{ints}
 use Rattle.crack_row.specs.Ranges.{Range}
 use Rattle.crack_row.specs.declared.TheConstants.{GREATEST_BOUND}
 use Rattle.crack_index.specs.declared.sums.TheConstants.{UNKNOWN}
-use Rattle.crack_index.specs.Sums.{IsKnown, IsAdditive, AreTold, IsEnd, Extends}
+use Rattle.crack_index.specs.Sums.{IsKnown, IsAdditive, AreTrue, IsEnd, Extends}
 use Rattle.crack_index.specs.Cuts.{StartsRise, IsRest, sum_piece_at, next_at, put, given, span}
 use Rattle.crack_index.proofs.Pieces.{end-above, none_below, next_above, piece-is, piece-above, IsEnd-put, IsEnd-given, AreRight-given, AreRight-split, AreRight-begin}
 
@@ -47,7 +47,7 @@ module _ (says : ℕ → ℕ → ℤ → Type 0) where
   }
 
   Extends-split : (key : ℕ) (p : ℕ × ℤ) (lower upper : ℤ) (es : List (ℕ × ℤ)) → StartsRise es → key < GREATEST_BOUND → sum_piece_at key es ≡ Some p → p.0 ≢ key
-      → ((m : ℕ → ℕ → ℤ) → IsAdditive m → AreTold says m → (IsKnown p.1 → p.1 ≡ m p.0 (next_at key es)) → (IsKnown lower → lower ≡ m p.0 key) × (IsKnown upper → upper ≡ m key (next_at key es)))
+      → ((m : ℕ → ℕ → ℤ) → IsAdditive m → AreTrue says m → (IsKnown p.1 → p.1 ≡ m p.0 (next_at key es)) → (IsKnown lower → lower ≡ m p.0 key) × (IsKnown upper → upper ≡ m key (next_at key es)))
       → Extends says es (given p.0 lower (put key upper es))
   Extends-split key p lower upper es rises few found apart sums =
       let piece = piece-is key es p rises few found in

@@ -1,5 +1,5 @@
--- The result of a walk over the bounds of an index, from the highest down, in which a visitor returns how far each
--- bound rises.
+-- The result of a walk over the bounds of an index, from the highest down. At each bound that may rise the walk calls
+-- a visitor, which returns how far the bound is to rise.
 use Rattle.std.specs.Prelude.{ℕ, ◌+◌, ◌<◌, min, List, [], ◌∷◌}
 use Rattle.crack_index.specs.declared.mark.Mark.{Mark}
 
@@ -7,9 +7,10 @@ use Rattle.crack_index.specs.declared.mark.Mark.{Mark}
 abbrev pub higher : ℕ → Mark → Mark
 higher rise m = record m { position = m.position + rise }
 
--- a walk over marks, from the highest down, with a visitor that returns how far each mark rises: how far the first
--- mark may rise, the marks and the visitor before, the marks and the visitor after, and how far the mark that would
--- follow may rise
+-- `Raises rises most ms v ms' w last`: a walk makes `ms'` of the marks `ms`, both with the highest first, and its
+-- visitor changes from `v` to `w`. No mark rises by more than `most` places or farther than the mark above it; a
+-- further mark below them could rise by at most `last`. `rises` relates the visitor before a visit, the mark, the rise
+-- that the visitor returns, and the visitor after the visit
 pub data Raises {V : Type 0} (rises : V → Mark → ℕ → V → Type 0) : ℕ → List Mark → V → List Mark → V → ℕ → Type 0 where
   -- no mark is left
   done : (most : ℕ) (v : V) → Raises rises most [] v [] v most

@@ -3,8 +3,8 @@
 use Rattle.std.specs.Prelude.{◌≡◌, ℕ, ◌+◌, ◌≤◌, max}
 use Rattle.crack_index.specs.Keeps.{DifferByAtMost}
 
--- the height after joining subtrees of these heights: that of the higher one or one more, and exactly one more if
--- they differ by at most one
+-- `height` may be that of a tree joined from subtrees of the heights `l` and `r`: it is the greater of `l` and `r`, or
+-- one more, and it is one more if `l` and `r` differ by at most one
 pub record IsHeightOver (l r height : ℕ) : Type 0 where
   pub lower : max l r ≤ height
   pub upper : height ≤ max l r + 1

@@ -3,7 +3,7 @@ use Rattle.std.specs.Prelude.{ℕ, ℤ, List, [], Option, Some, None}
 use Rattle.std.specs.declared.alloc.Global.{Global}
 use Rattle.std.proofs.Common.{Box}
 
--- what contracts see of a tree: its pieces in order, and its height
+-- what contracts see of a tree: its pieces in order, each as its start and its sum, and its height
 pub record Summed : Type 0 where
   pub entries : List (ℕ × ℤ)
   pub height : ℕ

@@ -8,7 +8,7 @@ use crate::source::SumSource;
 use crate::sums::UNKNOWN;
 use crack_row::{BoundNumber, KeyNumber, KeyRange};
 
-/// The sum after a change by this amount, or `UNKNOWN`.
+/// `sum` plus `change`, or `UNKNOWN`.
 #[inline]
 pub(crate) fn later(sum: i128, change: i128) -> i128
     ensures { result ≡ later change sum }
@@ -22,7 +22,7 @@ pub(crate) fn later(sum: i128, change: i128) -> i128
     }
 }
 
-/// The sum of one part of a piece, from the sums of the piece and of the other part, or `UNKNOWN`.
+/// The sum of one part of a piece, or `UNKNOWN`: `whole`, the piece's sum, minus `part`, the sum of the other part.
 pub(crate) fn rest(whole: i128, part: i128) -> i128
     ensures { IsRest whole part result }
 {
@@ -35,7 +35,7 @@ pub(crate) fn rest(whole: i128, part: i128) -> i128
     }
 }
 
-/// The sum of a piece, from the sums of its two parts, or `UNKNOWN`.
+/// The sum of a piece, or `UNKNOWN`: `lower` plus `upper`, the sums of its two parts.
 #[inline]
 pub(crate) fn whole(lower: i128, upper: i128) -> i128
     ensures { result ≡ both lower upper }
@@ -49,8 +49,8 @@ pub(crate) fn whole(lower: i128, upper: i128) -> i128
     }
 }
 
-/// The sum that the source gives for the keys from `low` up to but not including `high`, or `UNKNOWN` if it gives
-/// none or these numbers aren't a range.
+/// The sum that the source gives for the keys from `low` up to but not including `high`. `UNKNOWN` if it gives none,
+/// or if `low` and `high` aren't the ends of a range.
 pub(crate) fn asked<S: SumSource>(source: &S, low: BoundNumber, high: BoundNumber) -> i128
     ensures { IsKnown result → S.says source.now low high result }
 {
@@ -63,8 +63,9 @@ pub(crate) fn asked<S: SumSource>(source: &S, low: BoundNumber, high: BoundNumbe
     }
 }
 
-/// Whether the part of a piece between `low` and `high` has more than three quarters of the piece's keys (from
-/// `start` up to but not including `next`), and the source prefers to sum the rest of the piece.
+/// Whether the keys from `low` up to but not including `high`, a part of a piece, are more than three quarters of the
+/// piece's keys, and the source prefers to sum the rest of the piece. The piece has the keys from `start` up to but
+/// not including `next`.
 pub(crate) fn prefers_rest<S: SumSource>(
     source: &S,
     low: BoundNumber,

@@ -53,7 +53,7 @@ impl Model for CrackerIndex {
 }
 
 impl CrackerIndex {
-    /// Makes an index without bounds. Takes no memory.
+    /// Makes an index without bounds. Takes no memory. O(1).
     pub fn new(alloc: Global) -> CrackerIndex
         ensures marks { result.marks ≡ [] }
         ensures room { result.room ≡ 0 }
@@ -65,8 +65,8 @@ impl CrackerIndex {
         }
     }
 
-    /// Makes room for `n` more bounds. Refused with `OutOfMemory` if no memory is found; room made until then
-    /// stays.
+    /// Makes room for at least `n` more bounds. O(1) if there is room, otherwise O(n). Refused with `OutOfMemory` if
+    /// no memory is found; room made until then stays.
     pub fn reserve(&mut self, n: usize) -> Result<(), Refusal>
         ensures marks { self.new.marks ≡ self.old.marks }
         ensures ok { OnOk result (n ≤ self.new.room) }
@@ -83,7 +83,7 @@ impl CrackerIndex {
         tree::fill(&mut self.spare, n)
     }
 
-    /// The number of bounds.
+    /// The number of bounds. O(1).
     pub fn len(&self) -> usize
         ensures value { result ≡ length self.now.marks }
         ensures rising { Rising self.now.marks }
@@ -91,7 +91,7 @@ impl CrackerIndex {
         self.len
     }
 
-    /// Whether there are no bounds.
+    /// Whether there are no bounds. O(1).
     pub fn is_empty(&self) -> bool
         ensures { IsTrue result ↔ (self.now.marks ≡ []) }
     {
@@ -106,8 +106,8 @@ impl CrackerIndex {
         tree::height(&self.root)
     }
 
-    /// Adds a bound, which isn't in the index yet, at a place between those of the bounds below and above it.
-    /// There must be room. Takes no memory. O(log bounds).
+    /// Adds a bound at the place `position`. The bound must not be in the index yet, its place must be between those
+    /// of the bounds below and above it, and there must be room. Takes no memory. O(log bounds).
     pub fn add(&mut self, bound: InnerBound, position: usize)
         requires room { 0 < self.old.room }
         requires absent { HasBound self.old.marks bound.0 → ⊥ }
@@ -136,8 +136,8 @@ impl CrackerIndex {
         self.len -= 1;
     }
 
-    /// A pass over at most `bounds` of the bounds above a key, the lowest first. It finds those whose two pieces
-    /// hold at most `rows` rows together. O(log bounds).
+    /// Makes a pass over at most `bounds` of the bounds above `key`, the lowest first. The pass finds each bound for
+    /// which the pieces below and above it hold at most `rows` rows together. O(log bounds).
     pub fn pass_after(&self, key: Key, rows: usize, bounds: usize) -> Pass
         ensures { result ≡ pass_above key.0 rows bounds self.now.marks }
     {
@@ -145,8 +145,9 @@ impl CrackerIndex {
         Pass::new(key, from, rows, bounds)
     }
 
-    /// Removes and returns the next bound that a pass finds, in a column of `len` rows; `None` once the pass has
-    /// ended. Takes no memory. O(log bounds), and a step for each bound that the pass meets.
+    /// Moves the pass on to the next bound that it finds, in a column of `len` rows, removes the bound and returns it.
+    /// Removes none and returns `None` if the pass finds no further one: no bound is left, or it may meet no more.
+    /// Takes no memory. O(log bounds), and a step for each bound that the pass meets.
     pub fn remove_few(&mut self, pass: &mut Pass, len: usize) -> Option<InnerBound>
         ensures found { (result, pass.new) ≡ next_few len pass.old self.old.marks }
         ensures there { IfSome result (λ b. HasBound self.old.marks b.0) }
@@ -162,7 +163,8 @@ impl CrackerIndex {
         found
     }
 
-    /// The next bound that a pass finds, in a column of `len` rows; `None` once the pass has ended.
+    /// Moves the pass on to the next bound that it finds, in a column of `len` rows, and returns the bound, which
+    /// stays in the index. Returns `None` if no bound is left, or if the pass may meet no more.
     fn find_few(&self, pass: &mut Pass, len: usize) -> Option<InnerBound>
         ensures found { (result, pass.new) ≡ next_few len pass.old self.now.marks }
         ensures there { IfSome result (λ b. HasBound self.now.marks b.0) }
@@ -220,8 +222,8 @@ impl CrackerIndex {
         }
     }
 
-    /// The sizes of the pieces, in rising order, in a column of `len` rows whose keys lie in this range. O(bounds).
-    /// Refused with `OutOfMemory` if no memory is found.
+    /// The sizes of the pieces, in rising order, in a column of `len` rows whose keys lie in the range `keys`.
+    /// O(bounds). Refused with `OutOfMemory` if no memory is found.
     pub fn pieces(&self, keys: KeyRange, len: usize) -> Result<Vec<PieceSize>, Refusal>
         ensures ok { IfOk result (λ v. v.items ≡ pieces_from (record { 0 = keys.low }) 0 self.now.marks
             (record { 0 = keys.high }) len) }
@@ -234,7 +236,8 @@ impl CrackerIndex {
         tree::piece_sizes(*self.spare.allocator(), &self.root, self.len, keys, len)
     }
 
-    /// Moves each bound at the place down by one place. O(log bounds + bounds at that place).
+    /// Moves each bound at the place `position` down by one place. No bound may be there if `position` is 0. Takes no
+    /// memory. O(log bounds + bounds at that place).
     pub fn lower_at(&mut self, position: usize)
         requires { All (λ m. m.position ≡ position → 0 < position) self.old.marks }
         ensures marks { self.new.marks ≡ map (lowered_at position) self.old.marks }
@@ -246,8 +249,9 @@ impl CrackerIndex {
         }
     }
 
-    /// Moves this mark's bound, and each higher bound at the same place, up by one place. Returns the first bound
-    /// that was after that place, if there was one. O(log bounds + bounds at that place).
+    /// Moves the bound of `mark`, which must be in the index, and each higher bound at the same place, up by one
+    /// place. Returns the first bound above those that moved, or `None` if there is none. Takes no memory. O(log
+    /// bounds + bounds at that place).
     pub fn raise_past(&mut self, mark: Mark) -> Option<Mark>
         requires there { Contains self.old.marks mark }
         requires small { mark.position < usize.MAX }
@@ -263,10 +267,10 @@ impl CrackerIndex {
         next
     }
 
-    /// Walks up from the least bound above the key. The visitor is given the place of the bound. If it returns
-    /// true, that bound and the higher bounds at the same place move up by one, and the walk goes on to the next
-    /// place that has bounds. Returns the bound at which the visitor ended the walk, if it did. O(log bounds +
-    /// bounds at the visited places). Takes no memory.
+    /// Walks up from the least bound above the key. The visitor is given the place of the bound. If it returns true,
+    /// that bound and the higher bounds at the same place move up by one, and the walk goes on at the first bound
+    /// above them. If it returns false, the walk ends. Returns the bound at which the visitor ended the walk, or
+    /// `None` if no bound was left. O(log bounds + bounds at the visited places). Takes no memory.
     #[inline(always)]
     pub fn climb<V: Visitor>(&mut self, key: Key, visitor: &mut V) -> Option<Mark>
         requires small { All (λ m. m.position < usize.MAX) self.old.marks }
@@ -281,11 +285,11 @@ impl CrackerIndex {
         walk::climb(&mut self.root, key.number(), visitor)
     }
 
-    /// Walks down from the greatest bound at or below the key. The visitor is given the last place before the
-    /// bound. If it returns true, that bound and the lower bounds at the same place move down by one, and the walk
-    /// goes on to the next place that has bounds. A bound at the place 0 has no place before it, and ends the walk.
-    /// Returns the bound at which the walk ended, if one is left. O(log bounds + bounds at the visited places).
-    /// Takes no memory.
+    /// Walks down from the greatest bound at or below the key. The visitor is given the last place before the bound.
+    /// If it returns true, that bound and the lower bounds at the same place move down by one, and the walk goes on at
+    /// the first bound below them. If it returns false, the walk ends. A bound at the place 0 has no place before it,
+    /// and ends the walk too. Returns the bound at which the walk ended, or `None` if no bound was left.
+    /// O(log bounds + bounds at the visited places). Takes no memory.
     #[inline(always)]
     pub fn descend<V: Visitor>(&mut self, key: Key, visitor: &mut V) -> Option<Mark>
         requires ready { V.is_ready visitor.old }
@@ -299,10 +303,10 @@ impl CrackerIndex {
         walk::descend(&mut self.root, key.number(), visitor)
     }
 
-    /// Walks over the bounds from the highest down. The visitor is given each, and returns how far it rises. No
-    /// bound rises farther than `most` or than the one above it, and a bound that doesn't rise ends the walk.
-    /// Returns how far the lowest rose, or `most` if there is none. O(bounds that rise + log bounds). Takes no
-    /// memory.
+    /// Walks over the bounds from the highest down. The visitor is given each bound, and returns by how many places it
+    /// is to move up. No bound rises farther than `most`, or farther than the bound above it rose. A bound that
+    /// doesn't rise ends the walk: the bounds below it stay where they are. Returns how far the lowest bound rose, or
+    /// `most` if there are no bounds. O(bounds that rise + log bounds). Takes no memory.
     pub fn raise_each<V: Raiser>(&mut self, most: usize, visitor: &mut V) -> usize
         requires small { All (λ m. m.position + most ≤ usize.MAX) self.old.marks }
         requires ready { V.is_ready visitor.old }
@@ -314,9 +318,9 @@ impl CrackerIndex {
     {
         raising::raise_down(&mut self.root, most, visitor)
     }
-    /// Walks over the bounds from the lowest up. The visitor is given each, and returns the bound's new place. If
-    /// that is before the place of the bound below it, the bound gets the latter's place instead. Returns the place
-    /// of the highest bound, or 0 if there is none. O(bounds). Takes no memory.
+    /// Walks over the bounds from the lowest up. The visitor is given each bound, and returns the bound's new place.
+    /// If that is before the new place of the bound below it, the bound gets the place of the bound below instead.
+    /// Returns the new place of the highest bound, or 0 if there are no bounds. O(bounds). Takes no memory.
     pub fn place_each<V: Placer>(&mut self, visitor: &mut V) -> usize
         requires { V.is_ready visitor.old }
         ensures places { Places V.places 0 self.old.marks visitor.old self.new.marks visitor.new result }

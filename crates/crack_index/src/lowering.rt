@@ -8,8 +8,9 @@ ghost use Rattle.crack_index.specs.Trees.{marks_in_tree};
 use crate::tree::{MarkNode, MarkTree};
 use crate::{Mark, Placer};
 
-/// Moves the marks of a tree, from the lowest up, to the places that the visitor returns, but none before the one
-/// below it or before `least`. Returns the place of the last, or `least` if there is none. O(marks).
+/// Moves each mark of a tree, from the lowest up, to the place that the visitor returns for it. No mark is moved to
+/// before `least`, or to before the new place of the mark below it: it gets that place instead. Returns the new place
+/// of the highest mark, or `least` if the tree is empty. O(marks).
 pub(crate) fn place_up<V: Placer>(link: &mut MarkTree, least: usize, visitor: &mut V) -> usize
     requires ready { V.is_ready visitor.old }
     ensures places { Places V.places least (marks_in_tree link.old) visitor.old (marks_in_tree link.new) visitor.new
@@ -33,7 +34,8 @@ pub(crate) fn place_up<V: Placer>(link: &mut MarkTree, least: usize, visitor: &m
     place_up(right, here, visitor)
 }
 
-/// Moves one mark to the place that the visitor returns, but not before `least`. Returns its new place.
+/// Moves one mark to the place that the visitor returns, or to `least` if that place is before `least`. Returns the
+/// mark's new place.
 fn place_mark<V: Placer>(mark: &mut Mark, least: usize, visitor: &mut V) -> usize
     requires ready { V.is_ready visitor.old }
     ensures places { Places V.places least (mark.old ∷ []) visitor.old (mark.new ∷ []) visitor.new result }

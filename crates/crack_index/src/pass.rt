@@ -12,8 +12,8 @@ use crate::tree::{MarkNode, MarkTree};
 use crack_row::{InnerBound, Key, KeyNumber};
 use std::marker::Model;
 
-/// A pass over the bounds of an index, the lowest first. It finds each bound whose two pieces hold few rows
-/// together.
+/// A pass over the bounds of an index, the lowest first. It finds each bound whose two pieces, those below and above
+/// it, hold few rows together.
 #[derive(Drop)]
 pub struct Pass {
     /// The pass has met the bounds up to this number.
@@ -35,8 +35,8 @@ impl Model for Pass {
 }
 
 impl Pass {
-    /// Makes a pass over at most `bounds` bounds above the key `after`. The piece below them begins at the place
-    /// `from`.
+    /// Makes a pass over at most `bounds` bounds above the key `after`. At most `rows` rows count as few. The piece
+    /// that contains the key `after` begins at the place `from`.
     pub(crate) fn new(after: Key, from: usize, rows: usize, bounds: usize) -> Pass
         ensures { result ≡ record { after = after.0; from = from; rows = rows; bounds = bounds } }
     {
@@ -48,7 +48,8 @@ impl Pass {
         }
     }
 
-    /// The key above which all bounds lie that the pass didn't meet, if it may meet no more; otherwise `None`.
+    /// The key up to which the pass has met the bounds, if it may meet no more; a later pass can begin there. `None`
+    /// if the pass may still meet bounds. O(1).
     pub fn stopped(&self) -> Option<Key>
         ensures { option_map (λ (k : Key). k.0) result ≡ stopped_at self.now }
     {
@@ -59,9 +60,9 @@ impl Pass {
         }
     }
 
-    /// The next bound whose two pieces hold few rows together, in a column of `len` rows, or `None` once the pass
-    /// has ended. To go on with the pass, the caller must remove the bound. O(log marks), and a step for each
-    /// bound that the pass meets.
+    /// The next bound whose two pieces hold few rows together, in a column of `len` rows, or `None` if no bound is
+    /// left or the pass may meet no more. The bounds are those of the tree `link`. To go on with the pass, the caller
+    /// must remove the bound. O(log marks), and a step for each bound that the pass meets.
     pub(crate) fn next_few(&mut self, link: &MarkTree, len: usize) -> Option<InnerBound>
         ensures { (result, self.new) ≡ next_few len self.old (marks_in_tree link.now) }
     {
@@ -77,23 +78,25 @@ impl Pass {
         None
     }
 
-    /// Whether few rows lie between the start of the piece below the next bound and this place.
+    /// Whether at most as many rows as count as few lie from the start of the piece below the next bound up to the
+    /// place `to`.
     fn are_few(&self, to: usize) -> bool
         ensures { IsTrue result ↔ (to - self.now.from ≤ self.now.rows) }
     {
         to.saturating_sub(self.from) <= self.rows
     }
 
-    /// Whether the pass hasn't met the mark's bound yet.
+    /// Whether the mark's bound is above the number up to which the pass has met the bounds.
     fn is_before(&self, mark: Mark) -> bool
         ensures { IsTrue result ↔ (self.now.after < mark.bound.0) }
     {
         self.after < mark.bound.number()
     }
 
-    /// Goes on to the next bound, where the upper piece of the last met bound ends. Returns whether the pass
-    /// halts: either the two pieces of the last met bound hold few rows, or the pass may meet no more bounds and
-    /// `last` becomes `None`.
+    /// Goes on to `mark`, the next mark. `last` is the mark that was met before it, whose upper piece ends at `mark`.
+    /// The pass halts, and `mark` isn't met, in two cases: the two pieces of the bound of `last` hold few rows
+    /// together, so that it is found; or the pass may meet no more bounds, and then `last` becomes `None`. Otherwise
+    /// `mark` is met, and `last` becomes `mark`. Returns whether the pass halts.
     fn meet(&mut self, last: &mut Option<Mark>, mark: Mark) -> bool
         requires { self.old.after < mark.bound.0 }
         ensures found { (len : ℕ) (ms : List Mark)
@@ -117,8 +120,9 @@ impl Pass {
     }
 }
 
-/// Does the part of a pass that lies in this tree. `last` is the mark that the pass met last, if any. Returns
-/// whether the pass halted. O(log marks), and a step for each mark that it meets.
+/// Meets the marks of this tree that the pass hasn't met, the lowest first, each as `Pass::meet` does, until the pass
+/// halts. `last` is the mark that the pass met last, if any, and changes as `Pass::meet` says. Returns whether the
+/// pass halted. O(log marks), and a step for each mark that it meets.
 fn meet_all(link: &MarkTree, pass: &mut Pass, last: &mut Option<Mark>) -> bool
     ensures found { (len : ℕ) (ms : List Mark) → AreAhead last.old pass.old (marks_in_tree link.now)
         → found_from len last.old pass.old (marks_in_tree link.now ++ ms) ≡ found_or result len last.new pass.new ms }

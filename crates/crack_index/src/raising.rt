@@ -8,9 +8,10 @@ ghost use Rattle.crack_index.specs.Trees.{marks_in_tree};
 use crate::tree::{MarkNode, MarkTree};
 use crate::{Mark, Raiser};
 
-/// Raises the marks of a tree, from the highest down, each as far as the visitor returns, but no farther than the
-/// mark above it rose, or than `most`. Returns how far the next mark below them may rise. O(marks that rise + log
-/// marks).
+/// Moves the marks of a tree up, from the highest mark down. Each mark rises by the number of places that the visitor
+/// returns, but at most by `most`, and at most as far as the mark above it rose. Once a mark doesn't rise, the visitor
+/// isn't called for the marks below it, and they stay where they are. Returns how far a mark below the whole tree may
+/// rise: as far as the tree's lowest mark rose, or `most` if the tree is empty. O(marks that rise + log marks).
 pub(crate) fn raise_down<V: Raiser>(link: &mut MarkTree, most: usize, visitor: &mut V) -> usize
     requires small { All (λ m. m.position + most ≤ usize.MAX) (marks_in_tree link.old) }
     requires ready { V.is_ready visitor.old }
@@ -39,7 +40,8 @@ pub(crate) fn raise_down<V: Raiser>(link: &mut MarkTree, most: usize, visitor: &
     raise_down(left, here, visitor)
 }
 
-/// Raises one mark as far as the visitor returns, but no farther than `most`. Returns how far it rose.
+/// Moves one mark up by the number of places that the visitor returns, but at most by `most`. If `most` is 0, the
+/// visitor isn't called. Returns how far the mark rose.
 fn raise_mark<V: Raiser>(mark: &mut Mark, most: usize, visitor: &mut V) -> usize
     requires small { mark.old.position + most ≤ usize.MAX }
     requires ready { V.is_ready visitor.old }

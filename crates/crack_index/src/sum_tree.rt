@@ -52,7 +52,7 @@ impl Model for PieceNode {
     ghost size_decreases = { λ n h. Prim.grind (arith, length-append) };
 }
 
-/// The parts of a node.
+/// The parts of a node: its piece, and the trees of the pieces below and above it.
 #[derive(Drop)]
 struct PieceNodeParts {
     left: PieceTree,
@@ -75,7 +75,7 @@ impl PieceNode {
         }
     }
 
-    /// Takes the node apart. The node is left without children.
+    /// Takes the trees out of the node, and returns them with its piece. The node is left without children.
     fn open(&mut self) -> PieceNodeParts
         ensures entries { self.old.entries ≡ entries_in_tree result.left ++ result.entry ∷ entries_in_tree
             result.right }
@@ -105,7 +105,7 @@ fn height(link: &PieceTree) -> u32
     }
 }
 
-/// The total of a tree's sums, 0 if it is empty. O(1).
+/// The total of a tree's sums, or `UNKNOWN`; 0 if the tree is empty. O(1).
 #[inline]
 fn total(link: &PieceTree) -> i128
     ensures { IsTotal (entries_in_tree link.now) result }
@@ -116,7 +116,8 @@ fn total(link: &PieceTree) -> i128
     }
 }
 
-/// The total of two subtrees and the piece between them, or `UNKNOWN`. O(1).
+/// The total of the subtrees `left` and `right` and of the piece between them, whose sum is `sum`. It is `UNKNOWN` if
+/// one of the three is, or if 128 bits aren't enough. O(1).
 #[inline]
 fn total_over(left: &PieceTree, sum: i128, right: &PieceTree) -> i128
     ensures { (start : ℕ) → IsTotal (entries_in_tree left.now ++ (start, sum) ∷ entries_in_tree right.now) result }
@@ -173,8 +174,8 @@ pub(crate) fn next_above(link: &PieceTree, key: KeyNumber) -> BoundNumber
     found
 }
 
-/// The total of the pieces that begin at keys from `first` to `last`, or `UNKNOWN`. O(log pieces), one step per
-/// level.
+/// The total of the pieces that begin at keys from `first` to `last`, or `UNKNOWN`; 0 if there are none. O(log
+/// pieces), one step per level.
 pub(crate) fn total_between(link: &PieceTree, first: KeyNumber, last: KeyNumber) -> i128
     requires { StartsRise (entries_in_tree link.now) }
     ensures { IsTotal (inside (span first last) (entries_in_tree link.now)) result }
@@ -199,7 +200,8 @@ pub(crate) fn total_between(link: &PieceTree, first: KeyNumber, last: KeyNumber)
     0
 }
 
-/// The total of the pieces that begin at or above `first`, or `UNKNOWN`. O(log pieces), one step per level.
+/// The total of the pieces that begin at or above `first`, or `UNKNOWN`; 0 if there are none. O(log pieces), one step
+/// per level.
 fn total_from(link: &PieceTree, first: KeyNumber) -> i128
     requires { StartsRise (entries_in_tree link.now) }
     ensures { IsTotal (inside (record { low = first; high = GREATEST_BOUND }) (entries_in_tree link.now)) result }
@@ -223,7 +225,8 @@ fn total_from(link: &PieceTree, first: KeyNumber) -> i128
     sum
 }
 
-/// The total of the pieces that begin at or below `last`, or `UNKNOWN`. O(log pieces), one step per level.
+/// The total of the pieces that begin at or below `last`, or `UNKNOWN`; 0 if there are none. O(log pieces), one step
+/// per level.
 fn total_to(link: &PieceTree, last: KeyNumber) -> i128
     requires { StartsRise (entries_in_tree link.now) }
     ensures { IsTotal (inside (span 0 last) (entries_in_tree link.now)) result }
@@ -247,8 +250,8 @@ fn total_to(link: &PieceTree, last: KeyNumber) -> i128
     sum
 }
 
-/// The start of the first piece that begins at or above `first` and whose sum is unknown, if there is one.
-/// O(log pieces): subtrees with a known total aren't searched.
+/// The start of the first piece that begins at or above `first` and whose sum is unknown, if there is one. O(log
+/// pieces), as subtrees with a known total aren't searched; O(pieces) if a total doesn't fit into 128 bits.
 pub(crate) fn first_unknown(link: &PieceTree, first: KeyNumber) -> Option<KeyNumber>
     requires { StartsRise (entries_in_tree link.now) }
     ensures { result ≡ unknown_from first (entries_in_tree link.now) }
@@ -278,8 +281,8 @@ pub(crate) fn first_unknown(link: &PieceTree, first: KeyNumber) -> Option<KeyNum
     first_unknown(right, first)
 }
 
-/// Inserts a piece into the tree, in the node that is passed in. No piece may begin at its key yet. O(log pieces),
-/// takes no memory.
+/// Inserts a piece into the tree, and returns the tree. No piece may begin at its key yet. `node` becomes a node of
+/// the tree. O(log pieces), takes no memory.
 pub(crate) fn insert(link: PieceTree, entry: PieceSum, mut node: Box<PieceNode>) -> Box<PieceNode>
     requires rises { StartsRise (entries_in_tree link) }
     requires apart { IsEnd entry.0 (entries_in_tree link) → ⊥ }
@@ -302,7 +305,8 @@ pub(crate) fn insert(link: PieceTree, entry: PieceSum, mut node: Box<PieceNode>)
     }
 }
 
-/// Sets the sum of the piece that begins at the key, if there is one. O(log pieces), takes no memory.
+/// Sets the sum of the piece that begins at the key to `sum`, if there is such a piece. O(log pieces), takes no
+/// memory.
 pub(crate) fn give(link: &mut PieceTree, key: KeyNumber, sum: i128)
     requires { StartsRise (entries_in_tree link.old) }
     ensures entries { entries_in_tree link.new ≡ given key sum (entries_in_tree link.old) }
@@ -328,8 +332,8 @@ pub(crate) fn give(link: &mut PieceTree, key: KeyNumber, sum: i128)
     *total = total_over(left, entry.1, right);
 }
 
-/// Makes a tree of two subtrees and the piece between them, in this node. One subtree may be two levels higher than
-/// the other; then the tree is rotated. O(1).
+/// Makes a balanced tree of two subtrees and the piece between them; `node` becomes one of its nodes. One subtree may
+/// be two levels higher than the other; then the tree is rotated. O(1).
 fn join(left: PieceTree, entry: PieceSum, right: PieceTree, node: Box<PieceNode>) -> Box<PieceNode>
     requires near { DifferByAtMost 2 (levels_of left) (levels_of right) }
     requires fits { max (levels_of left) (levels_of right) ≤ 2 ^ 31 }
@@ -344,8 +348,8 @@ fn join(left: PieceTree, entry: PieceSum, right: PieceTree, node: Box<PieceNode>
     }
 }
 
-/// Makes a tree of two subtrees and the piece between them, in this node. The subtrees' heights differ by at most
-/// one. O(1).
+/// Makes a tree of two subtrees and the piece between them; `node` becomes its root. The subtrees' heights differ by
+/// at most one. O(1).
 fn with_children(
     left: PieceTree,
     entry: PieceSum,
@@ -369,8 +373,8 @@ fn with_children(
     node
 }
 
-/// Makes a tree of two subtrees, the left one (`top`) two levels higher, and the piece between them, by a
-/// rotation. `spare` becomes a node below the top. O(1).
+/// Makes a balanced tree of the pieces of `top`, of `entry` and of the pieces of `right`, in this order, by a
+/// rotation: `top` is two levels higher than `right`. `spare` becomes a node below the root. O(1).
 fn lean_left(
     mut top: Box<PieceNode>,
     entry: PieceSum,
@@ -401,8 +405,8 @@ fn lean_left(
     with_children(Some(before), parts.entry, Some(behind), middle)
 }
 
-/// Makes a tree of two subtrees, the right one (`top`) two levels higher, and the piece between them, by a
-/// rotation. `spare` becomes a node below the top. O(1).
+/// Makes a balanced tree of the pieces of `left`, of `entry` and of the pieces of `top`, in this order, by a rotation:
+/// `top` is two levels higher than `left`. `spare` becomes a node below the root. O(1).
 fn lean_right(
     left: PieceTree,
     entry: PieceSum,
@@ -440,7 +444,8 @@ struct FirstPiece {
     rest: PieceTree,
 }
 
-/// Removes the first piece from a tree, and frees its node. O(log pieces), takes no memory.
+/// Removes the first piece from a tree, and frees a node. Returns the piece and the tree of the others. O(log pieces),
+/// takes no memory.
 fn take_first(mut node: Box<PieceNode>) -> FirstPiece
     requires few { length node.value.entries ≤ 2 ^ 64 }
     ensures entries { node.value.entries ≡ result.entry ∷ entries_in_tree result.rest }
@@ -459,7 +464,8 @@ fn take_first(mut node: Box<PieceNode>) -> FirstPiece
     }
 }
 
-/// Removes the piece that begins at the key, if there is one, and frees a node. O(log pieces), takes no memory.
+/// Removes the piece that begins at the key, if there is one, and frees a node. Returns the tree. O(log pieces), takes
+/// no memory.
 pub(crate) fn remove(link: PieceTree, key: KeyNumber) -> PieceTree
     requires rises { StartsRise (entries_in_tree link) }
     requires few { length (entries_in_tree link) ≤ 2 ^ 64 }

@@ -2,7 +2,7 @@
 ghost use Rattle.std.specs.Prelude.{◌≡◌, ℕ, ℤ, ◌+◌, ◌<◌, ◌≤◌, ◌^◌, ◌↔◌, [], length, IsTrue, IsSome, IfSome, OnSome};
 ghost use Rattle.std.specs.Map.{keys_of};
 ghost use Rattle.crack_row.specs.declared.TheConstants.{GREATEST_BOUND};
-ghost use Rattle.crack_index.specs.Sums.{AreRight, SumsAreKnown, AreTold, IsAdditive, IsEnd, Changes, Extends};
+ghost use Rattle.crack_index.specs.Sums.{AreRight, SumsAreKnown, AreTrue, IsAdditive, IsEnd, Changes, Extends};
 ghost use Rattle.crack_index.specs.Sums.{adjusted, joined_below, total_in, distance_in};
 ghost use Rattle.crack_index.specs.Cuts.{StartsRise, Walks, sum_piece_at, next_at, put, given, dropped, span};
 
@@ -16,9 +16,9 @@ use std::marker::Model;
 /// The value that stands for an unknown sum. No sum of rows is that low.
 pub const UNKNOWN: i128 = -170141183460469231731687303715884105728;
 
-/// The sums of pieces, if known. A piece has the keys from its start up to the next piece, or all keys from its
-/// start on; no piece has the keys below the first. Contracts see the list of pieces, each with its start, and its
-/// sum or `UNKNOWN`.
+/// The sums of pieces, if known. A piece has the keys from its start up to the next piece; the last piece has all keys
+/// from its start on. No piece has the keys below the first piece. Contracts see the list of pieces, each with its
+/// start, and its sum or `UNKNOWN`.
 #[derive(Drop)]
 pub struct PieceSums {
     root: PieceTree,
@@ -50,7 +50,7 @@ pub(crate) enum Walked {
 }
 
 impl PieceSums {
-    /// Makes an empty list. Takes no memory.
+    /// Makes a list without pieces. Takes no memory. O(1).
     pub fn new(alloc: Global) -> PieceSums
         ensures { result ≡ [] }
     {
@@ -61,21 +61,21 @@ impl PieceSums {
         }
     }
 
-    /// The number of pieces.
+    /// The number of pieces. O(1).
     pub fn len(&self) -> usize
         ensures { result ≡ length self.now }
     {
         self.len
     }
 
-    /// Whether there are no pieces.
+    /// Whether there are no pieces. O(1).
     pub fn is_empty(&self) -> bool
         ensures { IsTrue result ↔ (self.now ≡ []) }
     {
         self.len == 0
     }
 
-    /// Removes all pieces, and frees their memory.
+    /// Removes all pieces, and frees their memory. O(pieces).
     pub fn clear(&mut self)
         ensures { self.new ≡ [] }
     {
@@ -83,8 +83,8 @@ impl PieceSums {
         self.len = 0;
     }
 
-    /// Adds this amount to the sum of the piece that contains the key, if there is one and its sum is known. The
-    /// sum becomes unknown if the result doesn't fit into 128 bits. Takes no memory. O(log pieces).
+    /// Adds `change` to the sum of the piece that contains the key, if there is one and its sum is known. The sum
+    /// becomes unknown if the result doesn't fit into 128 bits. Takes no memory. O(log pieces).
     pub fn adjust(&mut self, key: Key, change: i128)
         ensures value { self.new ≡ adjusted key.0 change self.old }
         ensures keys { keys_of self.new ≡ keys_of self.old }
@@ -96,8 +96,8 @@ impl PieceSums {
         self.give(start, amounts::later(sum, change));
     }
 
-    /// Joins the piece that begins at the key to the one below it, if both exist. The joint sum is known if both
-    /// sums are known and their total fits into 128 bits. Takes no memory. O(log pieces).
+    /// Joins the piece that begins at the key to the piece below it; does nothing if one of them doesn't exist. The
+    /// joint sum is known if both sums are known and their total fits into 128 bits. Takes no memory. O(log pieces).
     pub fn join(&mut self, key: Key)
         ensures value { self.new ≡ joined_below key.0 self.old }
         ensures right { (m : ℕ → ℕ → ℤ) → IsAdditive m → AreRight m self.old → AreRight m self.new }
@@ -119,8 +119,8 @@ impl PieceSums {
         self.give(low, amounts::whole(lower, upper));
     }
 
-    /// Removes the piece that begins at the key. Its keys become keys of the piece below it, whose sum isn't changed
-    /// here.
+    /// Removes the piece that begins at the key, which must exist. Its keys become keys of the piece below it, whose
+    /// sum isn't changed here.
     fn drop_at(&mut self, key: KeyNumber)
         requires { IsEnd key self.old }
         ensures value { self.new ≡ dropped key self.old }
@@ -131,13 +131,14 @@ impl PieceSums {
         self.len -= 1;
     }
 
-    /// The sum of a range, from the sums of the pieces in it. The pieces that contain its ends are cut there. The
-    /// source is asked for each unknown sum: of a part of the range, or, if it prefers that, of the rest of a piece
-    /// that contains an end. `None` if no memory is found, the source has no sum, or 128 bits aren't enough; known
-    /// sums stay right. O(log pieces), and as much for each sum asked for, besides the source's work.
+    /// The sum of a range that isn't empty: the total of the pieces in it. A piece that contains an end of the range
+    /// is first cut there: the source is asked for the part in the range or, if it prefers that and the piece's sum
+    /// is known, for the other part, which is then subtracted. It is also asked for each other unknown sum in the
+    /// range. `None` if no memory is found, the source has no sum, or 128 bits aren't enough; known sums stay right.
+    /// O(log pieces), and as much again for each sum that the source is asked for, besides the source's work.
     pub fn sum<S: SumSource>(&mut self, range: KeyRange, source: &S) -> Option<i128>
         requires { range.low < range.high }
-        ensures right { (m : ℕ → ℕ → ℤ) → IsAdditive m → AreTold (S.says source.now) m → AreRight m self.old
+        ensures right { (m : ℕ → ℕ → ℤ) → IsAdditive m → AreTrue (S.says source.now) m → AreRight m self.old
             → IfSome result (λ sum. sum ≡ m range.low range.high) × AreRight m self.new }
         ensures value { IfSome result (λ sum. sum ≡ total_in range self.new) }
         ensures known { OnSome result (SumsAreKnown range self.new) }
@@ -162,9 +163,11 @@ impl PieceSums {
         }
     }
 
-    /// Makes a piece begin at the key `first`: cuts the piece that contains it, or adds one. `last` is the last
-    /// key of the range that is summed: it decides which part the source is asked for. Returns false if no memory
-    /// is found.
+    /// Makes a piece begin at the key `first`, if none does: cuts the piece that contains the key, or adds a piece if
+    /// none contains it. `last` is the last key of the range that is summed. If the piece that is cut has a known sum,
+    /// the source is asked for the sum of one part: of the lower one if it prefers that, otherwise of the upper one.
+    /// It isn't asked for the upper one if the piece goes on beyond `last`: then both sums become unknown. Returns
+    /// false if no memory is found.
     fn cut_low<S: SumSource>(&mut self, first: KeyNumber, last: KeyNumber, source: &S) -> bool
         ensures more { Extends (S.says source.now) self.old self.new }
         ensures cut { IsTrue result → IsEnd first self.new }
@@ -191,8 +194,9 @@ impl PieceSums {
         self.split_above(start, first, sum, source)
     }
 
-    /// Makes a piece begin at the key after `last`, unless `last` is the greatest key: cuts the piece that
-    /// contains that key, or adds one. Returns false if no memory is found.
+    /// Makes a piece begin at the key after `last`, if none does and `last` isn't the greatest key: cuts the piece
+    /// that contains that key, or adds a piece if none contains it. If the piece that is cut has a known sum, the
+    /// source is asked for the sum of one part. Returns false if no memory is found.
     fn cut_high<S: SumSource>(&mut self, last: KeyNumber, source: &S) -> bool
         ensures more { Extends (S.says source.now) self.old self.new }
         ensures cut { IsTrue result → IsEnd (last + 1) self.new }
@@ -244,7 +248,8 @@ impl PieceSums {
         self.split(start, at, lower, amounts::rest(sum, lower))
     }
 
-    /// Like `split_below`, but asks the source for the sum of the upper part.
+    /// Cuts the piece that begins at `start` at the key `at`, where none begins. Asks the source for the sum of the
+    /// upper part; the lower part gets the rest of `sum`, the piece's sum. Returns false if no memory is found.
     fn split_above<S: SumSource>(
         &mut self,
         start: KeyNumber,
@@ -261,8 +266,9 @@ impl PieceSums {
         self.split(start, at, amounts::rest(sum, upper), upper)
     }
 
-    /// The sum of the keys from `first` to `last`, after asking the source for each unknown sum of the pieces from
-    /// `start` on. `None` if the source doesn't have one of them, or 128 bits aren't enough.
+    /// The total of the pieces that begin at keys from `first` to `last`. The source is first asked for the unknown
+    /// sums of those that begin at `start` or above; the sums of those below `start` are known. `None` if the source
+    /// doesn't have one of the sums, or 128 bits aren't enough.
     fn learned<S: SumSource>(
         &mut self,
         first: KeyNumber,
@@ -285,8 +291,8 @@ impl PieceSums {
         }
     }
 
-    /// Asks the source for each unknown sum of the pieces that begin at keys from `first` to `last`. Returns false
-    /// if the source doesn't have one of them.
+    /// Asks the source for each unknown sum of the pieces that begin at keys from `first` to `last`, and sets it.
+    /// Returns false, and asks for no more, if the source doesn't have one of the sums.
     fn learn<S: SumSource>(&mut self, first: KeyNumber, last: KeyNumber, source: &S) -> bool
         requires { first ≤ last }
         ensures { Extends (S.says source.now) self.old self.new }
@@ -306,8 +312,8 @@ impl PieceSums {
         true
     }
 
-    /// The total of the pieces that begin at keys from `first` to `last`, or the first of them whose sum is
-    /// unknown.
+    /// The total of the pieces that begin at keys from `first` to `last`, or the start of the first of them whose sum
+    /// is unknown, or `TooFar` if all are known but 128 bits aren't enough for the total.
     fn walk(&self, first: KeyNumber, last: KeyNumber) -> Walked
         requires { first ≤ last }
         ensures { Walks (span first last) self.now result }
@@ -342,8 +348,8 @@ impl PieceSums {
         sum_tree::next_above(&self.root, key)
     }
 
-    /// Cuts the piece that begins at `start` at the key `at`, where none begins, and gives the parts these sums.
-    /// Returns false, and changes nothing, if no memory is found.
+    /// Cuts the piece that begins at `start` at the key `at`, where none begins. The lower part gets the sum `lower`,
+    /// and the upper part the sum `upper`. Returns false, and changes nothing, if no memory is found.
     fn split(&mut self, start: KeyNumber, at: KeyNumber, lower: i128, upper: i128) -> bool
         requires { IsEnd at self.old → ⊥ }
         ensures ok { IsTrue result → self.new ≡ given start lower (put at upper self.old) }
@@ -357,8 +363,8 @@ impl PieceSums {
         true
     }
 
-    /// Adds a piece that begins at the key, where none begins. Returns false, and changes nothing, if no memory is
-    /// found.
+    /// Adds a piece with this sum that begins at the key, where none begins. The sums of the other pieces stay.
+    /// Returns false, and changes nothing, if no memory is found.
     fn put(&mut self, key: KeyNumber, sum: i128) -> bool
         requires { IsEnd key self.old → ⊥ }
         ensures ok { IsTrue result → self.new ≡ put key sum self.old }
@@ -378,7 +384,7 @@ impl PieceSums {
         true
     }
 
-    /// Sets the sum of the piece that begins at the key, if there is one. O(log pieces).
+    /// Sets the sum of the piece that begins at the key to `sum`, if there is such a piece. O(log pieces).
     fn give(&mut self, key: KeyNumber, sum: i128)
         ensures value { self.new ≡ given key sum self.old }
         ensures rises { StartsRise self.old }

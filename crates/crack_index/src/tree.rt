@@ -45,7 +45,7 @@ impl Model for MarkNode {
     ghost size_decreases = { λ n h. Prim.grind (arith, length-append) };
 }
 
-/// The parts of a node.
+/// The parts of a node: its mark, and the trees of the marks before and after it.
 #[derive(Drop)]
 struct MarkNodeParts {
     left: MarkTree,
@@ -67,7 +67,7 @@ impl MarkNode {
         }
     }
 
-    /// Takes the node apart. The node is left without children.
+    /// Takes the trees out of the node, and returns them with its mark. The node is left without children.
     fn open(&mut self) -> MarkNodeParts
         ensures marks { self.old.marks ≡ marks_in_tree result.left ++ result.mark ∷ marks_in_tree result.right }
         ensures balanced { IsBalanced result.left result.mark result.right self.old.height }
@@ -167,7 +167,7 @@ pub(crate) fn neighbours(link: &MarkTree, number: KeyNumber) -> (Option<Mark>, O
     (below, above)
 }
 
-/// The first mark whose place is after this one, if there is one. O(log marks), one comparison per level.
+/// The first mark that is at a place after `place`, if there is one. O(log marks), one comparison per level.
 pub(crate) fn first_behind(link: &MarkTree, place: usize) -> Option<Mark>
     ensures { result ≡ first_behind place (marks_in_tree link.now) }
 {
@@ -190,8 +190,8 @@ pub(crate) fn first_behind(link: &MarkTree, place: usize) -> Option<Mark>
     found
 }
 
-/// Inserts a mark, whose bound the tree doesn't have yet, in the node that is passed in. O(log marks), takes no
-/// memory.
+/// Inserts a mark into the tree, and returns the tree. The tree must not have its bound yet, and its place must be
+/// between those of the marks below and above it. `node` becomes a node of the tree. O(log marks), takes no memory.
 pub(crate) fn insert(link: MarkTree, mark: Mark, mut node: Box<MarkNode>) -> Box<MarkNode>
     requires rising { Rising (with_mark mark (marks_in_tree link)) }
     requires few { length (marks_in_tree link) < 2 ^ 64 }
@@ -213,8 +213,8 @@ pub(crate) fn insert(link: MarkTree, mark: Mark, mut node: Box<MarkNode>) -> Box
     }
 }
 
-/// Makes a tree of two subtrees and the mark between them, in this node. One subtree may be two levels higher than
-/// the other; then the tree is rotated. O(1).
+/// Makes a balanced tree of two subtrees and the mark between them; `node` becomes one of its nodes. One subtree may
+/// be two levels higher than the other; then the tree is rotated. O(1).
 fn join(left: MarkTree, mark: Mark, right: MarkTree, node: Box<MarkNode>) -> Box<MarkNode>
     requires rising { Rising (marks_in_tree left ++ mark ∷ marks_in_tree right) }
     requires near { DifferByAtMost 2 (height_of left) (height_of right) }
@@ -230,8 +230,8 @@ fn join(left: MarkTree, mark: Mark, right: MarkTree, node: Box<MarkNode>) -> Box
     }
 }
 
-/// Makes a tree of two subtrees and the mark between them, in this node. The subtrees' heights differ by at most
-/// one. O(1).
+/// Makes a tree of two subtrees and the mark between them; `node` becomes its root. The subtrees' heights differ by at
+/// most one. O(1).
 fn with_children(
     left: MarkTree,
     mark: Mark,
@@ -254,8 +254,8 @@ fn with_children(
     node
 }
 
-/// Makes a tree of two subtrees, the left one (`top`) two levels higher, and the mark between them, by a rotation.
-/// `spare` becomes a node below the top. O(1).
+/// Makes a balanced tree of the marks of `top`, of `mark` and of the marks of `right`, in this order, by a rotation:
+/// `top` is two levels higher than `right`. `spare` becomes a node below the root. O(1).
 fn lean_left(
     mut top: Box<MarkNode>,
     mark: Mark,
@@ -287,8 +287,8 @@ fn lean_left(
     with_children(Some(before), parts.mark, Some(behind), middle)
 }
 
-/// Makes a tree of two subtrees, the right one (`top`) two levels higher, and the mark between them, by a
-/// rotation. `spare` becomes a node below the top. O(1).
+/// Makes a balanced tree of the marks of `left`, of `mark` and of the marks of `top`, in this order, by a rotation:
+/// `top` is two levels higher than `left`. `spare` becomes a node below the root. O(1).
 fn lean_right(
     left: MarkTree,
     mark: Mark,
@@ -327,7 +327,8 @@ struct FirstMark {
     rest: MarkTree,
 }
 
-/// Removes the first mark from a tree, and frees its node. O(log marks), takes no memory.
+/// Removes the first mark from a tree, and frees a node. Returns the mark and the tree of the others. O(log marks),
+/// takes no memory.
 fn take_first(mut node: Box<MarkNode>) -> FirstMark
     requires few { length node.value.marks < 2 ^ 64 }
     ensures marks { node.value.marks ≡ result.mark ∷ marks_in_tree result.rest }
@@ -346,7 +347,8 @@ fn take_first(mut node: Box<MarkNode>) -> FirstMark
     }
 }
 
-/// Removes the mark of this bound, if the tree has it, and frees a node. O(log marks), takes no memory.
+/// Removes the mark of this bound, if the tree has it, and frees a node. Returns the tree. O(log marks), takes no
+/// memory.
 pub(crate) fn remove(link: MarkTree, bound: KeyNumber) -> MarkTree
     requires few { length (marks_in_tree link) < 2 ^ 64 }
     ensures marks { marks_in_tree result ≡ removed bound (marks_in_tree link) }
@@ -372,7 +374,7 @@ pub(crate) fn remove(link: MarkTree, bound: KeyNumber) -> MarkTree
     Some(join(left, first.mark, first.rest, here))
 }
 
-/// Moves each bound at or above `low` that is at the place up by one. O(log marks + marks at the place).
+/// Moves each bound at or above `low` that is at the place `place` up by one place. O(log marks + marks at the place).
 pub(crate) fn raise(link: &mut MarkTree, low: KeyNumber, place: usize)
     requires { place < usize.MAX }
     ensures marks { marks_in_tree link.new ≡ map (raised low place) (marks_in_tree link.old) }
@@ -398,7 +400,7 @@ pub(crate) fn raise(link: &mut MarkTree, low: KeyNumber, place: usize)
     }
 }
 
-/// Moves each bound that is at the place down by one. O(log marks + marks at the place).
+/// Moves each bound that is at the place `place`, which isn't 0, down by one place. O(log marks + marks at the place).
 pub(crate) fn lower_at(link: &mut MarkTree, place: usize)
     requires { 0 < place }
     ensures marks { marks_in_tree link.new ≡ map (lowered_at place) (marks_in_tree link.old) }
@@ -424,15 +426,15 @@ pub(crate) fn lower_at(link: &mut MarkTree, place: usize)
     }
 }
 
-/// An end of a piece, where the next one begins.
+/// An end of a piece, with its place: a bound, or an end of the keys.
 #[derive(Clone, Copy)]
 struct Edge {
     bound: Bound,
     position: usize,
 }
 
-/// Appends the sizes of the pieces that end at the tree's marks, in order. The first piece begins at `last`, which
-/// becomes the edge at the last mark. O(marks), takes no memory.
+/// Appends to `pieces` the sizes of the pieces that end at the tree's marks, in order. The first piece begins at
+/// `last`, which becomes the edge at the last mark. There must be room. O(marks), takes no memory.
 fn append_pieces(link: &MarkTree, last: &mut Edge, pieces: &mut Vec<PieceSize>)
     requires room { vec_len pieces.old + length (marks_in_tree link.now) ≤ vec_capacity pieces.old }
     ensures made { (rest : List Mark) (high : Bound) (to : ℕ)
@@ -496,7 +498,7 @@ fn edge_at(mark: Mark) -> Edge
     }
 }
 
-/// The piece between two edges, with its size: 0 if the second edge is before the first.
+/// The piece between the edges `low` and `high`, with its size: 0 if the place of `high` is before that of `low`.
 fn piece_between(low: Edge, high: Edge) -> PieceSize
     ensures { result ≡ size_between low.bound low.position high.bound high.position }
 {
@@ -507,8 +509,8 @@ fn piece_between(low: Edge, high: Edge) -> PieceSize
     }
 }
 
-/// Fills the stock up to this many spare nodes, one box at a time. Refused with `OutOfMemory` if no memory is
-/// found; nodes made until then stay in the stock.
+/// Fills the stock up to `nodes` spare nodes. O(nodes). Refused with `OutOfMemory` if no memory is found; nodes made
+/// until then stay in the stock.
 pub(crate) fn fill(spare: &mut Vec<Box<MarkNode>>, nodes: usize) -> Result<(), Refusal>
     requires { vec_len spare.old ≤ nodes }
     ensures ok { OnOk result (nodes ≤ vec_len spare.new) }

@@ -76,7 +76,8 @@ pub(crate) fn descend<V: Visitor>(
     way.ended
 }
 
-/// Does the part of a walk up that lies in this tree. Returns whether the walk has ended.
+/// Does the part of a walk up that lies in the tree of this node: walks over its marks above `number`, from the lowest
+/// up. `way` is how far the walk has come. Returns whether the walk has ended.
 fn raise_along<V: Visitor>(
     node: &mut MarkNode,
     number: KeyNumber,
@@ -118,8 +119,8 @@ fn raise_along<V: Visitor>(
     }
 }
 
-/// Does the part of a walk up that lies in this tree. All its bounds are above the number from which the walk began,
-/// so none is compared with it. Returns whether the walk has ended.
+/// Does what `raise_along` does for a tree whose bounds are all above the number from which the walk began, so that
+/// none is compared with it. Returns whether the walk has ended.
 fn raise_all<V: Visitor>(node: &mut MarkNode, way: &mut Way, visitor: &mut V) -> bool
     requires going { way.old.ended ≡ None }
     requires above { (number : ℕ) × All (λ m. number < m.bound.0) node.old.marks }
@@ -151,7 +152,8 @@ fn raise_all<V: Visitor>(node: &mut MarkNode, way: &mut Way, visitor: &mut V) ->
     }
 }
 
-/// Does the part of a walk down that lies in this tree. Returns whether the walk has ended.
+/// Does the part of a walk down that lies in the tree of this node: walks over its marks at or below `number`, from
+/// the highest down. `way` is how far the walk has come. Returns whether the walk has ended.
 fn lower_along<V: Visitor>(
     node: &mut MarkNode,
     number: KeyNumber,
@@ -192,8 +194,8 @@ fn lower_along<V: Visitor>(
     }
 }
 
-/// Does the part of a walk down that lies in this tree. None of its bounds is above the number from which the walk
-/// began, so none is compared with it. Returns whether the walk has ended.
+/// Does what `lower_along` does for a tree of which no bound is above the number from which the walk began, so that
+/// none is compared with it. Returns whether the walk has ended.
 fn lower_all<V: Visitor>(node: &mut MarkNode, way: &mut Way, visitor: &mut V) -> bool
     requires going { way.old.ended ≡ None }
     requires below { (number : ℕ) × All (λ m. m.bound.0 ≤ number) node.old.marks }
@@ -225,9 +227,9 @@ fn lower_all<V: Visitor>(node: &mut MarkNode, way: &mut Way, visitor: &mut V) ->
     }
 }
 
-/// Does one step of a walk up, at a bound above the number from which the walk began. A bound at the place of the
-/// last visit moves up by one. At any other the visitor is called: the bound moves up by one, or the visitor ends the
-/// walk. Returns whether the walk has ended.
+/// Does one step of a walk up, at a bound above the number from which the walk began. A bound at the place of the last
+/// visit moves up by one. At another place the visitor is called: if it returns true, the bound moves up by one,
+/// otherwise the walk ends at this bound. Returns whether the walk has ended.
 #[inline(always)]
 fn step_up<V: Visitor>(mark: &mut Mark, way: &mut Way, visitor: &mut V) -> bool
     requires going { way.old.ended ≡ None }
@@ -252,9 +254,10 @@ fn step_up<V: Visitor>(mark: &mut Mark, way: &mut Way, visitor: &mut V) -> bool
     }
 }
 
-/// Does one step of a walk down, at a bound at or below the number from which the walk began. A bound at the place of
-/// the last visit moves down by one. At any other the visitor is called: the bound moves down by one, or the visitor
-/// ends the walk. A bound at the place 0 ends it too. Returns whether the walk has ended.
+/// Does one step of a walk down, at a bound at or below the number from which the walk began. At the place 0 the walk
+/// ends. A bound at the place of the last visit moves down by one. At another place the visitor is called with the
+/// place before it: if it returns true, the bound moves down by one, otherwise the walk ends at this bound. Returns
+/// whether the walk has ended.
 #[inline(always)]
 fn step_down<V: Visitor>(mark: &mut Mark, way: &mut Way, visitor: &mut V) -> bool
     requires going { way.old.ended ≡ None }

@@ -22,7 +22,7 @@ pub record ConnectionState : Type 0 where
   pub stopped : Why
   pub has_ended : Bool
 
--- a new session with this policy
+-- the state of a new session with this policy, which has answered nothing
 abbrev pub new_session : Policy → SessionState
 new_session policy = record {
   begun = [];
@@ -36,8 +36,9 @@ abbrev pub is_none : List ℕ → Bool
 is_none [] = true
 is_none (b ∷ bs) = false
 
--- what a connection does next, once all its texts are written, by why its session stopped, whether no received
--- bytes wait, and whether its input has ended
+-- what a connection does next, once all its texts are written, by why its session stopped, whether no received bytes
+-- wait, and whether its input has ended: it answers if the output was full or bytes wait, closes if a line ended the
+-- session or the input has ended, and reads otherwise
 abbrev pub next_taking : Why → Bool → Bool → Next
 next_taking Full none has_ended = Answer
 next_taking Quit none has_ended = Close
@@ -50,19 +51,21 @@ next_taking Wants true false = Read
 abbrev pub next_of : ConnectionState → Next
 next_of c = if is_none c.unsent then next_taking c.stopped (is_none c.received) c.has_ended else Write
 
--- the refusal if a connection is cut off: it couldn't be written to, or couldn't be read
+-- the refusal if a connection is cut off before it does this: `WriteFault` if it is to write, else `ReadFault`
 abbrev pub fault_of : Next → Refusal
 fault_of Write = WriteFault
 fault_of _ = ReadFault
 
--- the bytes that a session leaves for later when it stops for this reason: all if the output is full, otherwise
--- none
+-- which of the bytes that a session didn't take are kept for later, by why it stopped: all if the output is full,
+-- otherwise none
 abbrev pub left_for_later : Why → List ℕ → List ℕ
 left_for_later Full bytes = bytes
 left_for_later _ bytes = []
 
--- The session of a connection is fed the first `taken` of these bytes. The connection keeps the others for later if
--- the output is full and memory is found for them.
+-- The session of a connection is fed the first `taken` of these bytes, which leads the connection from `old` to `new`,
+-- its desk from `desk` to `desk'` and its output from `out` to `out'`. If the output is full, it keeps the other bytes
+-- for later; `is_kept` is false only if no memory is found for them. Of a desk, `bounds` is what its table's limits
+-- mean for a partition, `tables` are its plain tables if known, and `leads` is the effect of a call.
 pub record Answers {D : Type 0} (bounds : D → Bounds) (splits : D → List Bound) (tables : D → Option (List PlainView)) (leads : D → Call → D → Type 0) (old : ConnectionState) (bytes : List ℕ) (desk desk' : D) (out out' : List ℕ) (is_kept : Bool) (new : ConnectionState) : Type 0 where
   pub taken : ℕ
   pub within : taken ≤ length bytes

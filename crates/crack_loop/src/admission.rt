@@ -7,8 +7,9 @@ use std::net::SocketAddr;
 use std::sync::atomic::{AtomicBool, Ordering};
 use std::sync::{Mutex, Wait};
 
-/// The counts of a server's connections: those accepted, with accepts that failed, and `most`, how many that may
-/// be; those that are open; those that have ended (`served`), and how many of them were cut off.
+/// The counts of a server's connections. `accepted` counts connections that were accepted and accepts that failed;
+/// once it is `most`, no more are accepted. `open` connections are open now. `served` have ended, and `cut_off` of
+/// these were cut off.
 #[derive(Drop)]
 pub(crate) struct ConnectionCounts {
     accepted: u64,
@@ -16,12 +17,14 @@ pub(crate) struct ConnectionCounts {
     open: u64,
     served: u64,
     cut_off: u64,
-    /// How many clients were turned away since this was last reported, and the last of them.
+    /// How many clients were turned away since this was last reported, and the address of the last client that was
+    /// turned away.
     turned_away: u64,
     last_away: Option<SocketAddr>,
     /// How many accepts failed since this was last reported.
     failed: u64,
-    /// When clients that were turned away were last reported, and when failed accepts were, in milliseconds.
+    /// When clients that were turned away were last reported, and when failed accepts were, in milliseconds. `None`
+    /// means never.
     reported: Option<u64>,
     failed_reported: Option<u64>,
 }
@@ -29,7 +32,8 @@ pub(crate) struct ConnectionCounts {
 /// The least time between two reports of clients that were turned away, or of failed accepts, in milliseconds.
 const REPORT_MILLIS: u64 = 1000;
 
-/// Whether a report is due: there was none yet, the last one was at least a second ago, or the server ends.
+/// Whether a report is due at the time `now`, in milliseconds: there was none yet (`reported` is `None`), the last one
+/// was at least a second ago, or the server ends (`is_end`).
 fn is_due(reported: Option<u64>, now: u64, is_end: bool) -> bool {
     match reported {
         Some(then) => is_end || has_passed(REPORT_MILLIS, then, now),
@@ -42,7 +46,7 @@ fn is_due(reported: Option<u64>, now: u64, is_end: bool) -> bool {
 pub(crate) enum Arrival {
     /// A connection was accepted.
     Accepted(TcpStream, SocketAddr),
-    /// A connection was turned away: as many are open as may be.
+    /// A connection was turned away, because the greatest number of connections is open.
     TurnedAway(TcpStream),
     /// No connection waits, or no more are accepted.
     Nobody,
@@ -85,8 +89,11 @@ impl Admission {
         }
     }
 
-    /// Accepts a connection, if one waits, or turns it away if `clients` are open. The lock is held meanwhile, so
-    /// that no more are accepted than may be. An accept that fails counts as a connection.
+    /// Accepts a connection of the listener if one waits, or turns it away if `clients` connections are open already.
+    /// Returns `Nobody` if none waits, if the accept was interrupted, or if the server accepts no more, and `Failed`
+    /// if the accept fails. A failed accept counts towards the most connections that the server accepts, but not as
+    /// open; a client that is turned away counts as neither. The lock is held meanwhile, so that no thread accepts one
+    /// too many.
     pub(crate) fn accept<Rt: Wait>(
         &self,
         rt: &Rt,
@@ -124,7 +131,7 @@ impl Admission {
         arrival
     }
 
-    /// Waits until all threads of the server are started: the lock is held until then.
+    /// Waits until all threads of the server are started: the thread that starts them holds the lock until then.
     pub(crate) fn await_start<Rt: Wait>(&self, rt: &Rt) {
         drop(self.progress.lock(rt));
     }
@@ -139,7 +146,8 @@ impl Admission {
         self.is_stopping.load(Ordering::SeqCst)
     }
 
-    /// Counts a connection that has ended.
+    /// Counts a connection that has ended: one fewer is open, one more was served, and one more was cut off if
+    /// `is_cut_off`.
     pub(crate) fn end<Rt: Wait>(&self, rt: &Rt, is_cut_off: bool) {
         let mut progress = self.progress.lock(rt);
         progress.open = progress.open.saturating_sub(1);
@@ -149,8 +157,9 @@ impl Admission {
         }
     }
 
-    /// Returns how many clients were turned away since the last report, and the last of them, and restarts the
-    /// count. `None` if there are none or no report is due.
+    /// Returns how many clients were turned away since the last report, and the address of the last of them, and
+    /// restarts the count. Returns `None`, and changes nothing, if none was turned away, or if no report is due at the
+    /// time `now`: `is_due` says when, and `is_end` means that the server ends.
     pub(crate) fn take_turned_away<Rt: Wait>(
         &self,
         rt: &Rt,
@@ -170,8 +179,9 @@ impl Admission {
         }
     }
 
-    /// Returns how many accepts failed since the last report, and restarts the count. `None` if none failed or no
-    /// report is due.
+    /// Returns how many accepts failed since the last report, and restarts the count. Returns `None`, and changes
+    /// nothing, if none failed, or if no report is due at the time `now`: `is_due` says when, and `is_end` means that
+    /// the server ends.
     pub(crate) fn take_failed<Rt: Wait>(&self, rt: &Rt, now: u64, is_end: bool) -> Option<u64> {
         let mut progress = self.progress.lock(rt);
         let count = progress.failed;

@@ -4,7 +4,7 @@ ghost use Rattle.std.specs.Prelude.{◌≡◌, ◌==◌, [], length, drop, IsOk,
 use std::alloc::{AllocError, Global};
 use std::marker::Model;
 
-/// A queue of bytes that wait to be passed on. It holds memory only while it isn't empty.
+/// A queue of bytes that wait to be answered or written. It holds memory only while it isn't empty.
 #[derive(Drop)]
 pub struct Backlog {
     bytes: Vec<u8>,
@@ -22,7 +22,7 @@ impl Model for Backlog {
 }
 
 impl Backlog {
-    /// An empty queue.
+    /// An empty queue. Takes no memory.
     pub fn new(alloc: Global) -> Backlog
         ensures { result ≡ [] }
     {
@@ -32,21 +32,22 @@ impl Backlog {
         }
     }
 
-    /// The bytes that wait, the oldest first.
+    /// The bytes that wait, the oldest first. O(1).
     pub fn as_slice(&self) -> &[u8]
         ensures { result.now ≡ self.now }
     {
         &self.bytes[self.passed..]
     }
 
-    /// Whether no byte waits.
+    /// Whether no byte waits. O(1).
     pub fn is_empty(&self) -> bool
         ensures { result ≡ (length self.now == 0) }
     {
         self.passed == self.bytes.len()
     }
 
-    /// Replaces the bytes that wait. Refused if no memory is found; then nothing has changed.
+    /// Replaces the bytes that wait by a copy of `bytes`. O(bytes). Refused if no memory is found; then nothing has
+    /// changed.
     pub fn keep(&mut self, alloc: Global, bytes: &[u8]) -> Result<(), AllocError>
         ensures ok { OnOk result (self.new ≡ bytes.now) }
         ensures err { OnErr result (self.new ≡ self.old) }
@@ -63,7 +64,7 @@ impl Backlog {
         Ok(())
     }
 
-    /// Removes the first `count` bytes, or all if there are fewer.
+    /// Removes the first `count` bytes, or all if there are fewer. Frees the memory if none is left. O(1).
     pub fn pass(&mut self, alloc: Global, count: usize)
         ensures { self.new ≡ drop count self.old }
     {

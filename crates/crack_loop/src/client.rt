@@ -16,7 +16,7 @@ pub(crate) struct Client {
     pub(crate) stream: TcpStream,
     pub(crate) connection: Connection,
     pub(crate) address: SocketAddr,
-    /// When the stream last delivered or accepted a byte, by the thread's own time.
+    /// When the stream last delivered or accepted a byte, in milliseconds by the thread's own time (`Crowd`).
     pub(crate) heard: u64,
     /// Whether the connection is queued for a turn.
     pub(crate) is_queued: bool,
@@ -38,9 +38,10 @@ pub(crate) enum After {
 }
 
 impl Client {
-    /// Takes the connection's next step: writes texts once, or answers and writes once, or reads, answers and writes
-    /// once. So the connections of a thread share it fairly. If the server stops, a connection that has nothing to
-    /// read ends.
+    /// Takes the connection's next step, which `Connection::next` names: writes texts once, or answers and writes
+    /// once, or reads, answers and writes once, or ends. So the connections of a thread share it fairly. If the server
+    /// stops, a connection that has nothing to read ends. `now` is the thread's time in milliseconds. Returns what the
+    /// connection does after the step.
     pub(crate) fn turn<D: Desk>(
         &mut self,
         alloc: Global,
@@ -61,8 +62,8 @@ impl Client {
         }
     }
 
-    /// Marks the connection as queued, and records whether its client has finished sending. Returns whether the
-    /// connection wasn't queued before.
+    /// Marks the connection as queued, and returns whether it wasn't queued before. If `is_half_closed`, also records
+    /// that its client has finished sending.
     pub(crate) fn is_due(&mut self, is_half_closed: bool) -> bool {
         self.is_half_closed = self.is_half_closed || is_half_closed;
         let is_new = !self.is_queued;
@@ -70,8 +71,10 @@ impl Client {
         is_new
     }
 
-    /// Writes texts that wait, once. Returns what the connection does next. `now` is the thread's time in
-    /// milliseconds, which the connection keeps if the stream takes bytes.
+    /// Writes texts that wait, once. Returns what the connection does next: it takes another turn if the stream took
+    /// bytes or the write was interrupted, waits until the stream is ready if it isn't, and is cut off if the write
+    /// fails or takes no byte. `now` is the thread's time in milliseconds, which becomes `heard` if the stream takes
+    /// bytes.
     fn write(&mut self, alloc: Global, now: u64) -> After {
         match (&self.stream).write(self.connection.unsent()) {
             Ok(0) => After::CutOff(Refusal::WriteFault),
@@ -90,7 +93,7 @@ impl Client {
 
     /// Writes the texts that the session just appended to the output of `room`, once. What the stream doesn't take
     /// waits. Returns what the connection does next: it is cut off if the write fails, or if no memory is found for
-    /// what waits.
+    /// what waits; otherwise it takes another turn. `now` becomes `heard` if the stream takes bytes.
     fn send(&mut self, alloc: Global, room: &Room, now: u64) -> After
         requires { self.old.connection.unsent ≡ [] }
     {
@@ -114,8 +117,10 @@ impl Client {
         }
     }
 
-    /// Reads once, answers what was read, and writes. Returns what the connection does next: it is cut off if the
-    /// read or the write fails, or if no memory is found.
+    /// Reads once, answers what was read, and writes. Returns what the connection does next. If there is nothing to
+    /// read, it ends if the server stops, and otherwise waits until the stream is ready. It is cut off if the read or
+    /// the write fails, or if no memory is found. Otherwise it takes another turn, or does what `after_all` says if
+    /// the read took all that the stream had and the server doesn't stop.
     fn read<D: Desk>(
         &mut self,
         alloc: Global,
@@ -147,7 +152,8 @@ impl Client {
     }
 
     /// Answers the first `count` bytes that were just read, or the end of the input if `count` is 0, and writes.
-    /// Returns as `read` does.
+    /// Returns what the connection does next: it is cut off if the write fails, or if no memory is found; otherwise it
+    /// takes another turn.
     fn answer<D: Desk>(
         &mut self,
         alloc: Global,
@@ -173,8 +179,8 @@ impl Client {
         }
     }
 
-    /// What follows a read that took all bytes of the stream: the connection waits until the stream is ready, unless
-    /// it has bytes to answer or its client has finished sending.
+    /// What follows a read that took all bytes which the stream had: the connection waits until the stream is ready,
+    /// if it is to read next and its client hasn't finished sending; otherwise it takes another turn at once.
     fn after_all(&self) -> After {
         match self.connection.next() {
             Next::Read if !self.is_half_closed => After::Event,

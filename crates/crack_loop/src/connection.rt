@@ -10,7 +10,8 @@ use crack_session::{Desk, Fed, Output, Session, Why};
 use std::alloc::{AllocError, Global};
 use std::marker::Model;
 
-/// A connection without its stream. An idle one holds no memory but its own.
+/// A connection without its stream. An idle one holds no memory but its own. Feeding its session costs what
+/// `Session::feed` costs, and a copy of the bytes or texts that are kept; everything else is O(1).
 #[derive(Drop)]
 pub struct Connection {
     session: Session,
@@ -20,7 +21,7 @@ pub struct Connection {
     has_ended: bool,
 }
 
-/// Whether at least `time` has passed from `since` to `now`.
+/// Whether at least `time` has passed from `since` to `now`, all in one unit. False if `now` is before `since`. O(1).
 pub fn has_passed(time: u64, since: u64, now: u64) -> bool
     ensures { IsTrue result ↔ (since + time ≤ now) }
 {
@@ -98,8 +99,8 @@ impl Connection {
         }
     }
 
-    /// Feeds bytes that were just read to the session, and keeps those that it doesn't take because the output is
-    /// full. Refused if no memory is found for them.
+    /// Feeds bytes that were just read to the session, which appends its texts to `out`. Keeps the bytes that the
+    /// session doesn't take because `out` is full. Refused if no memory is found for them; then they are lost.
     pub fn receive<D: Desk>(
         &mut self,
         alloc: Global,
@@ -119,8 +120,8 @@ impl Connection {
         }
     }
 
-    /// Feeds the kept bytes to the session: those that it didn't take when the output was full, or none if only the
-    /// rest of its last answer's text is left.
+    /// Feeds the kept bytes to the session, which appends its texts to `out`. These are the bytes that it didn't take
+    /// when the output was full, or none if only the rest of its last answer's text is left.
     pub fn resume<D: Desk>(&mut self, alloc: Global, desk: &mut D, out: &mut Output)
         ensures { Answers D.bounds D.splits D.tables D.leads self.old self.old.received desk.old desk.new
             out.old.items out.new.items true self.new }
@@ -135,8 +136,8 @@ impl Connection {
         }
     }
 
-    /// Takes the end of the input: an unfinished line is answered, and then the connection closes. Refused if the
-    /// output is full and no memory is found.
+    /// Takes the end of the input: an unfinished line is answered as if a line feed followed, and the connection
+    /// closes once all texts are written. Refused if the output is full and no memory is found for the line feed.
     pub fn end<D: Desk>(
         &mut self,
         alloc: Global,
@@ -169,7 +170,7 @@ impl Connection {
         self.unsent.keep(alloc, texts)
     }
 
-    /// Records that the first `count` bytes of the texts were written.
+    /// Records that the first `count` bytes of the unwritten texts were written, and drops them.
     pub fn sent(&mut self, alloc: Global, count: usize)
         ensures { self.new ≡ record self.old { unsent = drop count self.old.unsent } }
     {
@@ -187,7 +188,7 @@ impl Connection {
         }
     }
 
-    /// How many statements the session answered.
+    /// How many statements the session answered. The count saturates at `u64::MAX`.
     pub fn statements(&self) -> u64
         ensures { result ≡ self.now.session.progress.statements }
     {

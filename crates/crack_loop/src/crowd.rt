@@ -36,7 +36,8 @@ const MOST_ROUND_MILLIS: u64 = 2 * LOOK_MILLIS;
 /// connections leaves a new one to the other threads.
 const MOST_LEFT: u32 = 4;
 
-/// The connections of one thread, and the queue of those that take the next turns.
+/// The connections of one thread, and the queue of those that take the next turns. `clients` has the connections by
+/// their keys.
 #[derive(Drop)]
 pub(crate) struct Crowd {
     poll: Poll,
@@ -49,7 +50,8 @@ pub(crate) struct Crowd {
     may_arrive: bool,
     /// For how many rounds in a row a connection that may wait was left to the other threads.
     left: u32,
-    /// The host's time in milliseconds, and the thread's own, which stands still while the process is stopped.
+    /// The host's time in milliseconds, and the thread's own time, which advances by at most `MOST_ROUND_MILLIS` in a
+    /// round.
     now: u64,
     awake: u64,
     /// When the thread last searched for connections that have waited too long.
@@ -62,7 +64,7 @@ pub(crate) struct Crowd {
 }
 
 impl Crowd {
-    /// The state of a thread without connections.
+    /// The state of a thread without connections, at the host's time `now` in milliseconds.
     pub(crate) fn new(alloc: Global, poll: Poll, listener: TcpListener, now: u64) -> Crowd {
         Crowd {
             poll,
@@ -84,8 +86,9 @@ impl Crowd {
         }
     }
 
-    /// Waits for an event, at most `LOOK_MILLIS`, or not at all if a turn or an accept is next, and queues the
-    /// connections that are ready.
+    /// Waits for an event, and queues the connections that are ready. Doesn't wait if a connection is queued or an
+    /// accept is next. Waits at most a millisecond if a connection that may wait was just left to the other threads,
+    /// and otherwise at most `LOOK_MILLIS`.
     pub(crate) fn wait<Rt: Wait, H: Host>(
         &mut self,
         service: &ServerState<'_, Rt, H>,
@@ -122,8 +125,9 @@ impl Crowd {
         self.now = now;
     }
 
-    /// Accepts one connection, if one waits. A thread that has more than its share of the connections first leaves
-    /// it to the other threads for a few rounds.
+    /// Accepts one connection, if one waits, or turns it away if `Terms::clients` connections are open already. A
+    /// thread that has more than its share of the connections (`is_above_share`) first leaves a waiting one to the
+    /// other threads, for at most `MOST_LEFT` rounds.
     pub(crate) fn accept<Rt: Wait, H: Host>(&mut self, service: &ServerState<'_, Rt, H>) {
         if !self.may_arrive {
             return;
@@ -155,8 +159,8 @@ impl Crowd {
         }
     }
 
-    /// Adds a connection, and queues it for a turn at once. The connection is cut off if its stream can't be
-    /// watched or no memory is found.
+    /// Adds a connection with the client at this address, and queues it for a turn at once. The connection is cut off
+    /// if its stream can't be watched or no memory is found.
     fn admit<Rt: Wait, H: Host>(
         &mut self,
         service: &ServerState<'_, Rt, H>,
@@ -191,8 +195,8 @@ impl Crowd {
         self.enqueue(service, key, false);
     }
 
-    /// Queues a connection for a turn, unless it is queued already. `is_half_closed` says that its client sends no
-    /// more than what has arrived. Cuts it off if no memory is found for the queue.
+    /// Queues the connection with this key for a turn, unless it is queued already. `is_half_closed` says that its
+    /// client sends no more than what has arrived. Cuts the connection off if no memory is found for the queue.
     fn enqueue<Rt: Wait, H: Host>(
         &mut self,
         service: &ServerState<'_, Rt, H>,
@@ -209,7 +213,8 @@ impl Crowd {
         }
     }
 
-    /// Lets each queued connection take a turn, and queues those again that don't have to wait for an event.
+    /// Lets each queued connection take one turn. Afterwards queues it again if it doesn't have to wait for an event,
+    /// and removes it if it ends.
     pub(crate) fn take_turns<Rt: Wait, D: Desk, H: Host>(
         &mut self,
         service: &ServerState<'_, Rt, H>,
@@ -224,7 +229,8 @@ impl Crowd {
         }
     }
 
-    /// Lets a connection take a turn, and records how many statements were answered and how long that took.
+    /// Lets the connection with this key take a turn, and records how many statements were answered and, if any were,
+    /// how long that took. Returns what the connection does next, or `Event` if there is no connection with this key.
     fn turn<Rt: Wait, D: Desk, H: Host>(
         &mut self,
         service: &ServerState<'_, Rt, H>,
@@ -251,7 +257,8 @@ impl Crowd {
         }
     }
 
-    /// Queues or removes a connection after its turn.
+    /// Does with the connection what its turn returned (`after`): queues it again, leaves it until an event, or
+    /// removes it.
     fn follow<Rt: Wait, H: Host>(
         &mut self,
         service: &ServerState<'_, Rt, H>,
@@ -266,7 +273,8 @@ impl Crowd {
         }
     }
 
-    /// Closes a connection. If `cut_off` has a refusal and its cause, the connection was cut off.
+    /// Closes the connection with this key and counts it as ended. If `cut_off` has a refusal and its cause, the
+    /// connection was cut off, and the host is notified. Does nothing if there is no connection with this key.
     fn remove<Rt: Wait, H: Host>(
         &mut self,
         service: &ServerState<'_, Rt, H>,
@@ -280,8 +288,10 @@ impl Crowd {
         }
     }
 
-    /// Every `LOOK_MILLIS`, cuts off the connections that have waited too long, reports what wasn't accepted and
-    /// what was answered, and allows a failed accept to be tried again.
+    /// Does nothing until `LOOK_MILLIS` have passed since the last call that did something. Then cuts off the
+    /// connections that have waited for their clients for `Terms::idle` seconds, if that is set, reports clients that
+    /// were turned away, failed accepts and the number of answered statements, and allows a failed accept to be tried
+    /// again.
     pub(crate) fn look<Rt: Wait, H: Host>(&mut self, service: &ServerState<'_, Rt, H>) {
         if !has_passed(LOOK_MILLIS, self.looked, self.now) {
             return;
@@ -289,7 +299,7 @@ impl Crowd {
         self.looked = self.now;
         self.may_arrive = true;
         service.report_refused(self.now, false);
-        self.tell_pace(service);
+        self.report_pace(service);
         if let Some(idle) = service.terms.idle {
             let most = u64::from(idle) * 1000;
             'keys: for key in 0..self.clients.capacity() {
@@ -300,8 +310,8 @@ impl Crowd {
         }
     }
 
-    /// Reports to the server what was answered since the last report.
-    fn tell_pace<Rt: Wait, H: Host>(&mut self, service: &ServerState<'_, Rt, H>) {
+    /// Reports to the server how many statements were answered since the last report, and the longest time of a turn.
+    fn report_pace<Rt: Wait, H: Host>(&mut self, service: &ServerState<'_, Rt, H>) {
         if self.answered > 0 {
             service.note_pace(self.now, self.answered, self.longest);
             self.answered = 0;
@@ -309,7 +319,8 @@ impl Crowd {
         }
     }
 
-    /// The refusal with which a connection is cut off, or `None` if it hasn't waited for `most` milliseconds.
+    /// The refusal with which the connection with this key is cut off because it has waited for `most` milliseconds.
+    /// `None` if it hasn't waited so long, if it is queued for a turn, or if there is no such connection.
     fn overdue(&self, key: usize, most: u64) -> Option<Refusal> {
         match self.clients.get(key) {
             Some(client) if !client.is_queued && has_passed(most, client.heard, self.awake) => {
@@ -319,7 +330,8 @@ impl Crowd {
         }
     }
 
-    /// Once the server stops, queues each connection for a turn, in which it ends unless it is busy.
+    /// If the server has begun to stop since the last call, queues each connection for a turn, in which it ends unless
+    /// it has texts to write, or bytes to answer or to read.
     pub(crate) fn heed_stop<Rt: Wait, H: Host>(&mut self, service: &ServerState<'_, Rt, H>) {
         if self.stopping_since.is_none() && service.admission.is_stopping() {
             self.stopping_since = Some(self.now);
@@ -329,8 +341,8 @@ impl Crowd {
         }
     }
 
-    /// Whether the thread ends: no more connections are accepted, and there are none left or the stop has waited
-    /// long enough.
+    /// Whether the thread ends: the server accepts no more connections, and either no connection of the thread is
+    /// left, or the server has been stopping for `Terms::drain` seconds.
     pub(crate) fn is_done<Rt: Wait, H: Host>(&self, service: &ServerState<'_, Rt, H>) -> bool {
         let most = u64::from(service.terms.drain) * 1000;
         let waited = match self.stopping_since {
@@ -340,7 +352,7 @@ impl Crowd {
         service.admission.is_over() && (waited || self.clients.is_empty())
     }
 
-    /// Cuts off the connections that a stop didn't wait for.
+    /// Cuts off the connections that are left when the thread ends, because the stop waits no longer for them.
     pub(crate) fn cut_off_all<Rt: Wait, H: Host>(&mut self, service: &ServerState<'_, Rt, H>) {
         'keys: for key in 0..self.clients.capacity() {
             if let Some(client) = self.clients.get(key) {
@@ -351,8 +363,9 @@ impl Crowd {
     }
 }
 
-/// Reports to a client that there are too many. What it has sent is read, because closing a connection with unread
-/// bytes resets it, and the client may not see the refusal.
+/// Writes to a client that was turned away the line `refused 20 N`, in which N is `clients`, the greatest number of
+/// connections. Then reads once what the client has sent, because closing a connection with unread bytes resets it,
+/// and the client may not see the refusal.
 fn turn_away(stream: &TcpStream, clients: u64, room: &mut Room) {
     let mut line: ArrayString<40> = ArrayString::new();
     let _ = writeln!(line, "refused 20 {clients}");

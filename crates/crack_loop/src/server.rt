@@ -19,7 +19,8 @@ use std::{io, net, thread};
 /// The greatest number of events that a thread takes at once.
 const EVENTS: usize = 1024;
 
-/// The sources and events that a thread waits for.
+/// What a thread waits with: the poll in which its sources are registered, its copy of the listener, and room for
+/// events.
 #[derive(Drop)]
 struct Post {
     poll: Poll,
@@ -28,12 +29,12 @@ struct Post {
 }
 
 /// Serves the connections of a listener at desks. Each desk has a thread of its own, which serves any number of
-/// connections. If the ending is `AfterSessions`, the server ends once that many connections were accepted and have
-/// ended. If it is `AtEndOfInput`, the server stops once `input` ends or fails: no more connections are accepted,
-/// what has arrived is answered, each connection ends once it has nothing more to read, and the others are cut off
-/// after `terms.drain` seconds. Returns the desks. The host is notified of each session that was cut off, and of the
-/// end. Refused with `ReadFault` if the listener can't be waited for, and with `OutOfMemory` if no memory is found
-/// for the threads or one can't be started; then no connection is accepted.
+/// connections. If `terms.ending` is `AfterSessions`, the server ends once that many connections were accepted and have
+/// ended. If it is `AtEndOfInput`, the server stops once `input` ends or fails: no more connections are accepted, what
+/// has arrived is answered, each connection ends once it has nothing more to read, and the others are cut off after
+/// `terms.drain` seconds. Returns the desks. The host is notified of each session that was cut off, and of the end.
+/// Refused with `ReadFault` if the listener can't be waited for, and with `OutOfMemory` if no memory is found for the
+/// threads or one can't be started; then no connection is accepted.
 pub fn serve_connections<
     Rt: Threads + Wait + Net + Sync,
     D: Desk + Send + Drop,
@@ -67,8 +68,9 @@ pub fn serve_connections<
     Ok(ended)
 }
 
-/// Starts a thread for each desk, waits until all have ended, and returns the desks. Refused with `OutOfMemory` if
-/// no memory is found or a thread can't be started; then no connection is accepted.
+/// Starts a thread for each desk, which waits with the `Post` at the same index. Stops the server at the end of `input`
+/// if it is to end then. Waits until all threads have ended, and returns the desks. Refused with `OutOfMemory` if no
+/// memory is found or a thread can't be started; then no connection is accepted.
 fn serve_posts<Rt: Threads + Wait + Net + Sync, D: Desk + Send + Drop, H: Host + Sync, I: Read>(
     rt: &Rt,
     alloc: Global,
@@ -104,8 +106,8 @@ fn serve_posts<Rt: Threads + Wait + Net + Sync, D: Desk + Send + Drop, H: Host +
     all.ok_or(Refusal::OutOfMemory)
 }
 
-/// Makes the sources and the waker of each of `count` threads. Refused with `ReadFault` if the system has no more
-/// of them, and with `OutOfMemory` if no memory is found.
+/// Makes a `Post` and a waker for each of `count` threads, and makes the listener non-blocking. Refused with
+/// `ReadFault` if the system refuses one of these, and with `OutOfMemory` if no memory is found.
 fn posts<N: Net>(
     net: &N,
     alloc: Global,
@@ -132,7 +134,8 @@ fn posts<N: Net>(
     Ok((posts, wakers))
 }
 
-/// Makes a set of sources with a listener in it, and a waker that ends a wait for them.
+/// Makes a poll in which a copy of the listener is registered, the copy, and a waker that ends a wait for the poll.
+/// Fails if the system can't make one of them.
 fn watch<N: Net>(net: &N, listener: &net::TcpListener) -> io::Result<(Poll, TcpListener, Waker)> {
     let poll = Poll::new(net)?;
     let mut listener = TcpListener::from_std(listener.try_clone()?);
@@ -142,7 +145,7 @@ fn watch<N: Net>(net: &N, listener: &net::TcpListener) -> io::Result<(Poll, TcpL
     Ok((poll, listener, waker))
 }
 
-/// Serves connections at a desk until the server ends, and returns the desk.
+/// Serves connections at a desk until the server ends, cuts off the connections that are left, and returns the desk.
 fn serve_post<Rt: Wait, D: Desk + Drop, H: Host>(
     service: &ServerState<'_, Rt, H>,
     post: Post,
@@ -172,7 +175,8 @@ fn serve_post<Rt: Wait, D: Desk + Drop, H: Host>(
     desk
 }
 
-/// If the server ends with its input, waits for the end of the input, and then stops the server.
+/// If the server is to end at the end of `input`, waits for that, and then stops the server. Otherwise returns at
+/// once.
 fn await_end<Rt: Wait, H: Host, I: Read>(service: &ServerState<'_, Rt, H>, input: &mut I) {
     if let ServerEnding::AtEndOfInput = service.terms.ending {
         read_out(input);
@@ -181,7 +185,7 @@ fn await_end<Rt: Wait, H: Host, I: Read>(service: &ServerState<'_, Rt, H>, input
     }
 }
 
-/// Reads an input until it ends or fails.
+/// Reads an input until it ends or fails, and drops the bytes.
 fn read_out<I: Read>(input: &mut I) {
     let mut bytes = [0u8; 512];
     'reads: for _ in 0..u64::MAX {

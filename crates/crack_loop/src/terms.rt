@@ -26,13 +26,13 @@ pub struct Terms {
     pub policy: Policy,
     /// When the server ends.
     pub ending: ServerEnding,
-    /// How many seconds a connection may wait for its client, at least 1, or `None` for any time.
+    /// How many seconds a connection may wait for its client, at least 1, or `None` if it may wait for ever.
     pub idle: Option<u32>,
     /// How many connections may be open at once.
     pub clients: u64,
-    /// How many seconds a stop waits for busy connections.
+    /// How many seconds a server that stops waits for busy connections before it cuts them off.
     pub drain: u32,
-    /// Whether the host is notified of checkpoints that were due.
+    /// Whether the host is notified of automatic checkpoints.
     pub notes_checkpoints: bool,
 }
 
@@ -59,19 +59,20 @@ impl<'a, Rt: Wait, H: Host> ServerState<'a, Rt, H> {
         }
     }
 
-    /// Whether a thread with this many connections has more than its share of those that are open.
+    /// Whether a thread that has this many connections, `clients`, has more than its share: more than the number of
+    /// open connections divided by the number of threads.
     pub(crate) fn is_above_share(&self, clients: usize) -> bool {
         let (open, _) = self.admission.counts(self.rt);
         (clients as u64).saturating_mul(self.wakers.len() as u64) > open
     }
 
-    /// Records how many statements a thread answered shortly before `now`, in the host's milliseconds, and the
-    /// longest time of one turn, in microseconds.
+    /// Records that a thread answered `answered` statements shortly before `now`, which is the host's time in
+    /// milliseconds, and that the longest of their turns took `longest` microseconds.
     pub(crate) fn note_pace(&self, now: u64, answered: u64, longest: u64) {
         self.pace.lock(self.rt).note(now / 1000, answered, longest);
     }
 
-    /// The server's traffic now.
+    /// The server's traffic now; its number of statements a second and its longest time are those of the last minute.
     pub(crate) fn traffic(&self) -> Traffic {
         let now = self.host.millis();
         let uptime = now.saturating_sub(self.begun) / 1000;
@@ -86,7 +87,8 @@ impl<'a, Rt: Wait, H: Host> ServerState<'a, Rt, H> {
         }
     }
 
-    /// Counts a connection that has ended, and notifies the host if it was cut off.
+    /// Counts a connection of the client at this address that has ended. If it was cut off, `cut_off` has the refusal
+    /// and the cause, and the host is notified.
     pub(crate) fn end(&self, client: SocketAddr, cut_off: Option<(Refusal, Cause)>) {
         self.admission.end(self.rt, cut_off.is_some());
         if let Some((refusal, cause)) = cut_off {
@@ -98,8 +100,9 @@ impl<'a, Rt: Wait, H: Host> ServerState<'a, Rt, H> {
         }
     }
 
-    /// Notifies the host of the clients that were turned away and the accepts that failed since the last notice: of
-    /// each at most once a second, and at the server's end.
+    /// Notifies the host of the clients that were turned away, and of the accepts that failed, since the last notice
+    /// of each. Sends each notice at most once a second, but always at the server's end (`is_end`) if there is
+    /// something to report. `now` is the host's time in milliseconds.
     pub(crate) fn report_refused(&self, now: u64, is_end: bool) {
         if let Some((count, client)) = self.admission.take_turned_away(self.rt, now, is_end) {
             self.host.note(Notice::TurnedAway {

@@ -1,14 +1,14 @@
--- What a ripple merge leaves unchanged, and what it counts.
+-- What a ripple merge of the range `r` leaves unchanged, and what it counts.
 use Rattle.std.specs.Prelude.{◌≡◌, ℕ, ◌+◌, ◌*◌, ◌≤◌, ◌&&◌, nat_lt, max, min, length, take, drop, count_by, []}
 use Rattle.crack_row.specs.Ranges.{Range}
 use Rattle.crack_index.specs.Marks.{bounds_of}
 use Rattle.crack_state.specs.State.{State, IsIntact}
 use Rattle.crack_state.specs.Merge.{Follows, StillReads, SomeOf, Evicts, LosesFirst, IsExact, beyond, edge, outside_of, count_inside}
 
--- the pending insertions in a range are inserted near it: the column is unchanged before the range's low end, and
--- from the new place of its high end on; of the rows after the range that were replaced, doomed ones are buried and
--- others evicted, of each at most as many as pending insertions in the range; the column keeps its length, unless
--- the range's high end moves past it
+-- from `s` to `t`, the pending insertions in a range are inserted. The column stays the same before the place of the
+-- range's low end, and from the new place of its high end on. Of the rows whose places were taken, doomed ones are
+-- buried, and others evicted: at most as many of each as there were pending insertions in the range. The column keeps
+-- its length, unless the range's high end moves past it
 pub record PutsInNear (s t : State) (r : Range) : Type 0 where
   pub follows : Follows s t
   pub intact : IsIntact t []
@@ -20,14 +20,14 @@ pub record PutsInNear (s t : State) (r : Range) : Type 0 where
   pub behind : drop (edge t r.high) t.column ≡ drop (edge t r.high) s.column
   pub long : length t.column ≡ max (length s.column) (edge t r.high)
 
--- the number of fillers for the pending deletions in a range: one for each, but no more than pending insertions
--- from the range's end up to the next bound
+-- how many of the pending deletions in a range get a filler, a pending insertion that takes the deleted row's place:
+-- all, or as many as there are pending insertions from the range's high end up to the next bound, if these are fewer
 abbrev pub fillers_of : State → Range → ℕ
 fillers_of s r = min (count_inside s.cells (beyond s r) s.pending_in) (count_inside s.cells r s.pending_out)
 
--- the rows with pending deletions in a range are deleted, and no others; the first fillers leave the pending
--- insertions, and the column is shorter by one for each deleted row without a filler; if each has a filler, the
--- column is unchanged from the place of the range's high end on
+-- from `s` to `t`, the rows with pending deletions in a range are deleted, and no others. The first `fillers_of s r`
+-- fillers leave the pending insertions, and the column is shorter by one for each deleted row without a filler. If
+-- each has a filler, the column is unchanged from the place of the range's high end on
 pub record TakesOutNear (s t : State) (r : Range) : Type 0 where
   pub follows : Follows s t
   pub intact : IsIntact t []
@@ -37,8 +37,8 @@ pub record TakesOutNear (s t : State) (r : Range) : Type 0 where
   pub long : length t.column + length s.pending_out ≡ length s.column + length t.pending_out + fillers_of s r
   pub behind : fillers_of s r ≡ count_inside s.cells r s.pending_out → drop (edge s r.high) t.column ≡ drop (edge s r.high) s.column
 
--- a merge near the range: first its pending insertions are inserted, then the rows with its remaining pending
--- deletions are deleted
+-- from `s` to `t`, a merge of the range: first its pending insertions are inserted, as `PutsInNear` says, and then the
+-- rows with its remaining pending deletions are deleted, as `TakesOutNear` says
 pub record MergesNear (s t : State) (r : Range) : Type 0 where
   pub filled : State
   pub puts_in : PutsInNear s filled r
@@ -48,7 +48,7 @@ pub record MergesNear (s t : State) (r : Range) : Type 0 where
 abbrev pub piece_count : State → Range → ℕ
 piece_count s r = count_by (λ bound. nat_lt r.low bound && nat_lt bound r.high) (bounds_of s.marks) + 1
 
--- if every counter is exact, the rows that were inserted moved on average at most as many rows as the range has
--- pieces
+-- if no counter of `t` has reached its greatest value, the rows inserted from `s` to `t` moved on average at most as
+-- many rows as the range has pieces in `s`
 abbrev pub MovesNear : State → State → Range → Type 0
 MovesNear s t r = IsExact t.tally → t.tally.moved + s.tally.insertions * piece_count s r ≤ s.tally.moved + t.tally.insertions * piece_count s r

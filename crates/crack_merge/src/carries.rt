@@ -12,12 +12,17 @@ ghost use Rattle.crack_merge.specs.Loops.{MayEnd, EvictsOver, ended_carry};
 use crack_row::{Bound, KeyRange, Refusal};
 use crack_store::{CarryEnd, Carrying, Store};
 
-/// Carries the pending insertions in a range into the column, in order of arrival. A row at or above the ceiling
-/// isn't carried on but evicted: it becomes a pending insertion. The ceiling is at or above the range's high end, so
-/// no evicted row is in the range. One pass over the pending insertions, and O(log bounds + pieces on its way) for
-/// each carried row. If there is no bound and the range has all keys, the rows are appended in one loop, with room
-/// made once for all. Otherwise, if there is no ceiling or no row is doomed, the rows are carried in bulk, in one
-/// pass over the pieces. Refused with `OutOfMemory` if no memory is found; rows carried before stay where they are.
+/// Carries the pending insertions in a range into the column, in order of arrival. A carried row takes the place
+/// where its piece ends, and the row that was there, if any, is carried on. Of the rows carried on, a doomed one is
+/// buried, and one at or above the ceiling is evicted: it becomes a pending insertion. The ceiling is at or above the
+/// range's high end, so no evicted row is in the range.
+///
+/// Takes one pass over the pending insertions, and for each of those in the range O(log bounds + pieces on its way).
+/// If there is no bound and the range has all keys, the rows are appended in one loop, with room made once for all.
+/// Otherwise the rows are carried in bulk, in one pass over the pieces. If neither is possible, as when no memory is
+/// found for all, or they are too few for bulk (`Store::carry_in_bulk` and, under a ceiling, `Store::carry_under` say
+/// when), each is carried by itself. Refused with `OutOfMemory` if no memory is found for a row that is carried by
+/// itself; rows carried before it stay where they are.
 pub fn carry_range(
     mut store: Store,
     range: KeyRange,
@@ -50,9 +55,9 @@ pub fn carry_range(
     }
 }
 
-/// Carries all pending insertions in a range at once, if that is worth it and memory is found for all. Otherwise
-/// returns the place of the first one, and they are to be carried one after another. `None` if none is left to
-/// carry. O(pending insertions), and O(pieces) for each carried row.
+/// Carries all pending insertions in a range at once, if `carry_all` does so, and returns `None`; also returns `None`
+/// if there is none. Otherwise carries none, and returns the place of the first one; the caller is to carry them one
+/// after another. O(pending insertions), and O(pieces) for each carried row.
 fn first_to_carry(store: &mut Store, range: KeyRange, ceiling: Option<Bound>) -> Option<usize>
     requires { IsCeiling (ceiling_of ceiling) range }
     ensures carried { IfNone result (CarriesAll (ceiling_of ceiling) range store.old store.new) }
@@ -68,9 +73,9 @@ fn first_to_carry(store: &mut Store, range: KeyRange, ceiling: Option<Bound>) ->
     Some(first)
 }
 
-/// Carries all pending insertions in a range at once, under the ceiling if there is one. `first` is the place of
-/// the first. Returns whether it did so; if not, none was carried. O(pending insertions), and O(pieces) for each
-/// carried row.
+/// Carries all pending insertions in a range at once: as `carry_under` does if there is a ceiling, otherwise as
+/// `carry_at_once` does. `first` is the place of the first. Returns whether it did so; if not, none was carried.
+/// O(pending insertions), and O(pieces) for each carried row.
 fn carry_all(store: &mut Store, range: KeyRange, first: usize, ceiling: Option<Bound>) -> bool
     requires ceiling { IsCeiling (ceiling_of ceiling) range }
     requires first { Finds range (keys_at store.old.cells store.old.pending_in) 0 (Some first) }
@@ -83,9 +88,10 @@ fn carry_all(store: &mut Store, range: KeyRange, first: usize, ceiling: Option<B
     }
 }
 
-/// Carries all pending insertions in a range at once. `first` is the place of the first. Returns whether it did so.
-/// If there is no bound and the range has all keys, they are appended to the column; otherwise they are carried in
-/// bulk. Carries none if no memory is found for all. O(pending insertions), and O(pieces) for each carried row.
+/// Carries all pending insertions in a range at once. `first` is the place of the first. If there is no bound and the
+/// range has all keys, they are appended to the column; otherwise they are carried in bulk. Returns true if it did so.
+/// Carries none, and returns false, if no memory is found for all, or if `Store::carry_in_bulk` carries none.
+/// O(pending insertions), and O(pieces) for each carried row.
 pub(crate) fn carry_at_once(store: &mut Store, range: KeyRange, first: usize) -> bool
     requires { Finds range (keys_at store.old.cells store.old.pending_in) 0 (Some first) }
     ensures all { IsTrue result → CarriesAll None range store.old store.new }
@@ -99,7 +105,9 @@ pub(crate) fn carry_at_once(store: &mut Store, range: KeyRange, first: usize) ->
 }
 
 /// Carries all pending insertions in a range at once, as `carry_at_once` does, but under a ceiling: a row at or above
-/// it whose place is taken becomes a pending insertion.
+/// the ceiling whose place another row takes is evicted. `first` is the place of the first pending insertion in the
+/// range. Returns true if it did so. Carries none, and returns false, if no memory is found for all, or if
+/// `Store::carry_under` carries none, as when a row is doomed or no bound is at the ceiling.
 fn carry_under(store: &mut Store, range: KeyRange, first: usize, ceiling: Bound) -> bool
     requires ceiling { range.high ≤ ceiling.0 }
     requires first { Finds range (keys_at store.old.cells store.old.pending_in) 0 (Some first) }
@@ -125,7 +133,8 @@ fn is_appendable(store: &Store, range: KeyRange) -> bool
     has_all && store.is_uncracked()
 }
 
-/// Appends all pending insertions to the column, if memory is found for them. Returns whether it did so.
+/// Appends all pending insertions to the column, which must have no bound, if memory is found for all of them. Returns
+/// whether it did so; if not, none was appended.
 fn append_at_once(store: &mut Store) -> bool
     requires { store.old.marks ≡ [] }
     ensures all { IsTrue result → SameButRoom (all_appended store.old) store.new }
@@ -135,8 +144,10 @@ fn append_at_once(store: &mut Store) -> bool
 }
 
 /// Carries the row in hand up through the pieces until it is to be buried, evicted or appended, and returns which of
-/// these. In each step the row in hand takes the place where its own piece ends, and the row that was there comes
-/// into the hand. O(log bounds), and O(1) for each piece and for each bound at its place. Takes no memory.
+/// the three. In each step the row in hand takes the place where its own piece ends, and the row that was there comes
+/// into the hand. A doomed row is to be buried; another row at or above the ceiling, if there is one, is to be
+/// evicted; and a row whose piece ends at the column's end is to be appended. O(log bounds), and O(1) for each piece
+/// and for each bound at its place. Takes no memory.
 pub(crate) fn carry(carrying: &mut Carrying, ceiling: Option<Bound>) -> CarryEnd
     ensures ends { MayEnd result carrying.new }
     ensures evicts { EvictsOver (ceiling_of ceiling) result (hand_key carrying.new) }
@@ -149,8 +160,8 @@ pub(crate) fn carry(carrying: &mut Carrying, ceiling: Option<Bound>) -> CarryEnd
     carrying.carry_up(ceiling)
 }
 
-/// Ends a carry by this rule: buries the row in hand, evicts it to the pending insertions, or appends it to the
-/// column.
+/// Ends a carry as `rule` says: buries the row in hand, evicts it to the pending insertions, or appends it to the
+/// column. There must be room for it.
 pub(crate) fn end(carrying: Carrying, rule: CarryEnd) -> Store
     requires ends { MayEnd rule carrying }
     requires column_room { 0 < carrying.store.column_room }
@@ -164,7 +175,7 @@ pub(crate) fn end(carrying: Carrying, rule: CarryEnd) -> Store
     }
 }
 
-/// Ends a carry as `end` does, and takes the pending insertion at this place into the hand.
+/// Ends a carry as `end` does, and then takes the pending insertion at this place into the hand.
 pub(crate) fn end_and_lift(carrying: &mut Carrying, rule: CarryEnd, place: usize)
     requires ends { MayEnd rule carrying.old }
     requires column_room { 1 < carrying.old.store.column_room }

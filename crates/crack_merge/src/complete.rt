@@ -14,9 +14,10 @@ use crack_row::{KeyRange, Refusal};
 use crack_store::{MergeReport, Store};
 
 /// Merges all pending rows if at least one of them has its key in the range, otherwise none. The range must be
-/// cracked. O(pieces) for each pending row, and one search for the place of each doomed row. Refused with
-/// `OutOfMemory` if no memory is found for a pending insertion. Then rows inserted before stay where they are, and
-/// only the doomed rows that their carries met are gone.
+/// cracked, and not empty. Returns the store, and the counts of this merge. O(pending rows); if it merges them, also
+/// O(pieces) for each, and one search for the place of each doomed row. Refused with `OutOfMemory` if no memory is
+/// found for a pending insertion. The store is then given back: rows inserted until then stay in the column, doomed
+/// rows that their carries met are buried, and no other row is deleted.
 pub fn merge_complete(
     store: Store,
     range: KeyRange,
@@ -58,8 +59,8 @@ fn is_touched(store: &Store, range: KeyRange) -> bool
     store.first_in(range).is_some() || store.first_out(range).is_some()
 }
 
-/// Inserts all pending insertions, in order of arrival. Refused with `OutOfMemory` if no memory is found for one of
-/// them; rows inserted before stay where they are.
+/// Inserts all pending insertions, in order of arrival, by carries. Refused with `OutOfMemory` if no memory is found
+/// for one of them; rows inserted until then stay where they are.
 fn merge_insertions(mut store: Store) -> Result<Store, (Store, Refusal)>
     ensures ok { IfOk result (λ t. PutsIn Complete store t) }
     ensures all { IfOk result (λ t. t.pending_in ≡ []) }
@@ -92,8 +93,8 @@ fn merge_insertions(mut store: Store) -> Result<Store, (Store, Refusal)>
     Ok(end(carrying, rule))
 }
 
-/// Inserts all pending insertions at once, if that is worth it and memory is found for all. Returns whether none is
-/// left. O(pending insertions), and O(pieces) for each.
+/// Inserts all pending insertions at once, if `carry_at_once` does so. Returns true if none is left, as when there
+/// was none; if it returns false, none was inserted. O(pending insertions), and O(pieces) for each.
 fn merge_insertions_at_once(store: &mut Store) -> bool
     ensures puts { IsTrue result → PutsIn Complete store.old store.new }
     ensures all { IsTrue result → store.new.pending_in ≡ [] }

@@ -11,11 +11,12 @@ use crate::report::counted_between;
 use crack_row::{KeyRange, Refusal};
 use crack_store::{MergeReport, Store};
 
-/// Merges the pending rows in the range. Other pending rows are merged only if they are doomed rows, with a pending
-/// deletion, that a carry or a pull meets. The range must be cracked. O(pending rows) to find them, O(pieces) for
-/// each merged row, and one search for the place of each doomed row. Refused with `OutOfMemory` if no memory is found
-/// for a pending insertion in the range. Then rows inserted before stay where they are, and only the doomed rows that
-/// their carries met are gone.
+/// Merges the pending rows in the range, which must be cracked and not empty. A doomed row outside the range is also
+/// deleted if a carry meets it; other pending rows outside the range stay pending. Returns the store, and the counts
+/// of this merge. O(pending rows) to find those in the range, O(pieces) for each merged row, and one search for the
+/// place of each doomed row. Refused with `OutOfMemory` if no memory is found for a pending insertion in the range.
+/// The store is then given back: rows inserted until then stay in the column, doomed rows that their carries met are
+/// buried, and no other row is deleted.
 pub fn merge_gradual(
     store: Store,
     range: KeyRange,

@@ -10,12 +10,14 @@ use crack_arena::Handle;
 use crack_row::{KeyRange, Row};
 use crack_store::{Carrying, Store};
 
-/// Deletes the rows with pending deletions in a range, in order of arrival. The place of each is taken by a filler,
-/// the first pending insertion at or after `seen` whose key is in `fillers`; or by the column's last row if no
-/// filler is left. No filler is before `seen`. One pass over the pending deletions and one over the pending
-/// insertions. For each deleted row O(log bounds + pieces on its way), and one search for its place. Those with
-/// fillers are pulled in bulk first, and then the others, if that is worth it and memory is found for a list of
-/// them. Takes no other memory.
+/// Deletes the rows with pending deletions in a range, in order of arrival, each by a pull. The pull begins with a
+/// filler, the first pending insertion at or after the place `seen` whose key is in `fillers`, or with the column's
+/// last row if no filler is left. No filler may be before `seen`. One pass over the pending deletions and one over the
+/// pending insertions. For each deleted row O(log bounds + pieces on its way), and one search for its place.
+///
+/// The rows with fillers are pulled in bulk if `Store::fill_in_bulk` does so, and then those without, if any, if
+/// `Store::pull_in_bulk` does so; both say when. Otherwise rows are pulled one after another. Takes memory only for
+/// the list of rows of a bulk.
 pub fn pull_range(mut store: Store, range: KeyRange, fillers: KeyRange, seen: usize) -> Store
     requires behind { fillers.low < fillers.high → range.high ≤ fillers.low }
     requires within { seen ≤ length store.pending_in }
@@ -36,7 +38,10 @@ pub fn pull_range(mut store: Store, range: KeyRange, fillers: KeyRange, seen: us
     pull_rest(store, range, fillers)
 }
 
-/// Deletes the doomed rows of the range that are left after the first ones were pulled in bulk, with fillers.
+/// Deletes the doomed rows of the range as `pull_range` does, after a bulk with fillers took the first ones. A filler
+/// is a pending insertion whose key is in `fillers`: a pull begins with the first one that is left, or with the
+/// column's last row if none is. If there is none from the start, the rows are pulled in bulk if `Store::pull_in_bulk`
+/// does so; otherwise one after another.
 fn pull_rest(store: Store, range: KeyRange, fillers: KeyRange) -> Store
     requires behind { fillers.low < fillers.high → range.high ≤ fillers.low }
     requires room { 0 < store.column_room }
@@ -48,8 +53,9 @@ fn pull_rest(store: Store, range: KeyRange, fillers: KeyRange) -> Store
     }
 }
 
-/// Deletes the doomed rows of the range, if there is no filler at or after `seen`: in bulk, if that is worth it
-/// and memory is found for a list of them, otherwise one after another.
+/// Deletes the doomed rows of the range, by pulls that begin with the column's last row. There must be no filler,
+/// neither before the place `seen` nor from there on. Pulls in bulk if `Store::pull_in_bulk` does so, otherwise one
+/// after another.
 fn pull_unfilled(mut store: Store, range: KeyRange, fillers: KeyRange, seen: usize) -> Store
     requires behind { fillers.low < fillers.high → range.high ≤ fillers.low }
     requires within { seen ≤ length store.pending_in }
@@ -65,8 +71,8 @@ fn pull_unfilled(mut store: Store, range: KeyRange, fillers: KeyRange, seen: usi
     pull_each(store, range, fillers, seen)
 }
 
-/// Deletes the doomed rows of the range one after another, with fillers as long as there are any, as `pull_range`
-/// describes.
+/// Deletes the doomed rows of the range one after another, each by a pull. The pull begins with the first filler at or
+/// after the place `seen`, or with the column's last row if no filler is left, as `pull_range` describes.
 fn pull_each(mut store: Store, range: KeyRange, fillers: KeyRange, seen: usize) -> Store
     requires behind { fillers.low < fillers.high → range.high ≤ fillers.low }
     requires within { seen ≤ length store.pending_in }
@@ -93,8 +99,9 @@ fn pull_each(mut store: Store, range: KeyRange, fillers: KeyRange, seen: usize) 
     }
 }
 
-/// Takes the first filler at or after `seen` into the hand, or the column's last row if there is none. Returns
-/// where the search for the next filler begins. O(1) for each pending insertion that it passes. Takes no memory.
+/// Takes the first filler at or after the place `seen` into the hand, or the column's last row if there is none.
+/// Returns the store with the row in hand, and the place where the search for the next filler begins. O(1) for each
+/// pending insertion that it passes. Takes no memory.
 fn begin(store: Store, fillers: KeyRange, seen: usize) -> (Carrying, usize)
     requires some { 0 < length store.column }
     requires room { (length store.pending_in ≤ seen) ⊎ (0 < store.column_room) }
@@ -109,7 +116,8 @@ fn begin(store: Store, fillers: KeyRange, seen: usize) -> (Carrying, usize)
     }
 }
 
-/// Buries the row in hand, which must be doomed, and begins the next pull as `begin` does, but in place.
+/// Buries the row in hand, which must be doomed, and takes the next filler or the column's last row into the hand, as
+/// `begin` does. Returns the place where the search for the next filler begins.
 fn bury_and_begin(carrying: &mut Carrying, fillers: KeyRange, seen: usize) -> usize
     requires doomed { IsDoomed carrying.old }
     requires some { 0 < length carrying.old.store.column }
@@ -129,11 +137,11 @@ fn bury_and_begin(carrying: &mut Carrying, fillers: KeyRange, seen: usize) -> us
     }
 }
 
-/// Brings a doomed row into the hand. In each step the row in hand takes the last place before its own piece, and
-/// the row that was there is in hand; in the doomed row's piece it takes the doomed row's place. Another doomed row
-/// that comes into hand moves on like any other. The first row in hand may come from any place after the doomed
-/// row. In the end the doomed row is in hand, and is to be buried. O(log bounds), O(1) for each piece and for each
-/// bound at its place, and one search for the doomed row's place. Takes no memory.
+/// Brings a doomed row into the hand. It must be in the own piece of the row in hand, or in a lower one. In each step
+/// the row in hand takes the last place before its own piece, and the row that was there comes into the hand; in the
+/// doomed row's piece the row in hand takes the doomed row's place. Another doomed row that comes into the hand moves
+/// on like any other. In the end the doomed row is in hand, and is to be buried. O(log bounds), O(1) for each piece
+/// and for each bound at its place, and one search for the doomed row's place. Takes no memory.
 fn draw(carrying: &mut Carrying, doomed: Handle<Row>)
     requires pending { Contains carrying.old.store.pending_out doomed }
     requires ahead { (place : ℕ) → StandsAt carrying.old.store.column place doomed → place <

@@ -4,7 +4,7 @@ ghost use Rattle.crack_state.specs.Merge.{counted_between};
 
 use crack_store::MergeReport;
 
-/// The difference of two reports, counter by counter: what was counted after `before`, up to `after`.
+/// The difference of two reports, counter by counter: `after` minus `before`, or 0 where `after` is lower. O(1).
 pub fn counted_between(before: MergeReport, after: MergeReport) -> MergeReport
     ensures { result ≡ counted_between before after }
 {

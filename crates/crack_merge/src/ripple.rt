@@ -15,14 +15,17 @@ use crate::report::counted_between;
 use crack_row::{KeyRange, Refusal};
 use crack_store::{MergeReport, Store};
 
-/// Merges the pending rows in the range. Rows just above the range may be evicted: they become pending insertions.
-/// Other pending rows are merged only if they are fillers, which take the place of a deleted row, or doomed rows,
-/// with a pending deletion, that a carry or a pull meets. The range must be cracked. An evicted row becomes a filler
-/// in this call, or is merged by a later call whose range needs it. O(pending rows) to find them. For each insertion,
-/// and for each deletion whose place a filler takes, O(pieces of the range); for each other deletion O(pieces). One
-/// search for the place of each doomed row. Refused with `OutOfMemory` if no memory is found for a pending insertion
-/// in the range or for a filler. Then rows inserted before stay where they are, no filler is merged, and only the
-/// doomed rows that the carries met are gone.
+/// Merges the pending rows in the range, which must be cracked and not empty. Rows just above the range may be
+/// evicted: they become pending insertions. A pull may begin with a filler, a pending insertion from the range's high
+/// end up to the next bound, which is inserted by it. A doomed row outside the range is also deleted if a carry meets
+/// it. Other pending rows outside the range stay pending. An evicted row may become a filler in this call; otherwise
+/// it stays pending.
+///
+/// Returns the store, and the counts of this merge. O(pending rows) to find those in the range. For each insertion,
+/// and for each deletion with a filler, O(pieces of the range); for each other deletion O(pieces). One search for the
+/// place of each doomed row. Refused with `OutOfMemory` if no memory is found for a pending insertion in the range or
+/// for a filler. The store is then given back: rows inserted until then stay in the column, no filler is inserted,
+/// doomed rows that carries met are buried, and no other row is deleted.
 pub fn merge_ripple(store: Store, range: KeyRange) -> Result<(Store, MergeReport), (Store, Refusal)>
     requires some { range.low < range.high }
     requires low { store.keys.low ≤ range.low }
@@ -56,9 +59,9 @@ pub fn merge_ripple(store: Store, range: KeyRange) -> Result<(Store, MergeReport
     }
 }
 
-/// The first part of `merge_ripple`: inserts the pending insertions in the range, in order of arrival. O(pending
-/// rows) to find them, and O(pieces of the range) for each. Refused with `OutOfMemory` if no memory is found for
-/// one of them; rows inserted before stay where they are.
+/// The first part of `merge_ripple`: inserts the pending insertions in the range, in order of arrival, by carries
+/// under a ceiling at the range's high end. O(pending rows) to find them, and O(pieces of the range) for each. Refused
+/// with `OutOfMemory` if no memory is found for one of them; rows inserted until then stay where they are.
 pub fn ripple_in(store: Store, range: KeyRange) -> Result<Store, (Store, Refusal)>
     requires some { range.low < range.high }
     requires low { store.keys.low ≤ range.low }
@@ -80,11 +83,11 @@ pub fn ripple_in(store: Store, range: KeyRange) -> Result<Store, (Store, Refusal
     carry_range(store, range, Some(range.high()))
 }
 
-/// The second part of `merge_ripple`: deletes the rows with pending deletions in the range, in order of arrival.
-/// The place of each is taken by a filler, the first pending insertion from the range's end up to the next bound;
-/// or by the column's last row if no filler is left. O(pending rows) to find them. O(pieces of the range) for each
-/// with a filler, O(pieces) for each other one, and one search for the place of each. Refused with `OutOfMemory` if
-/// no memory is found for a filler; then no row has moved.
+/// The second part of `merge_ripple`: deletes the rows with pending deletions in the range, in order of arrival, each
+/// by a pull. The pull begins with a filler, the first pending insertion from the range's high end up to the next
+/// bound, or with the column's last row if no filler is left. O(pending rows) to find the rows. For each, one search
+/// for its place, and O(pieces of the range) if it has a filler, otherwise O(pieces). Refused with `OutOfMemory` if no
+/// memory is found for a filler; then no row has moved.
 pub fn ripple_out(mut store: Store, range: KeyRange) -> Result<Store, (Store, Refusal)>
     requires some { range.low < range.high }
     requires low { store.keys.low ≤ range.low }

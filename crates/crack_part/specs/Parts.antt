@@ -1,4 +1,5 @@
--- What contracts see of a partition, and the invariant of each.
+-- What contracts see of a partition, and the invariant of each. A step takes the store from `s` to `t`. `r` is the
+-- range that is read, `keys` are the partition's keys, and the optional range after them is the command's.
 use Rattle.std.specs.Prelude.{◌≡◌, ◌⊎◌, ℕ, Bool, ◌+◌, ◌-◌, ◌*◌, ◌<◌, ◌≤◌, nat_le, true, false, [], length, Option, Some, None}
 use Rattle.std.specs.List.Sorted.{IsPermutation}
 use Rattle.crack_row.specs.Commands.{change_of, range_of}
@@ -42,7 +43,7 @@ state_of part = record { rows = by_serial (live_rows part.store); next = part.ne
 abbrev pub table_of : Part → PlainView
 table_of part = record { state = state_of part; checkpointed = part.checkpointed; since = part.since }
 
--- the numbers of a partition, for monitoring: a column has one more piece than bounds
+-- the statistics of a partition; its column has one more piece than bounds
 abbrev pub statistics_of : Part → Statistics
 statistics_of part = record {
   rows = length (state_of part).rows;
@@ -55,19 +56,20 @@ statistics_of part = record {
   commands_since_checkpoint = part.since;
 }
 
--- a history may be limited to this many entries
+-- a history may be limited to this many entries: at least 1, and at most `GREATEST_LIMIT`
 abbrev pub IsLimit : ℕ → Type 0
 IsLimit limit = (1 ≤ limit) × (limit ≤ GREATEST_LIMIT)
 
--- the live rows of a store are the plain rows, in some order, and the next serial is theirs
+-- the live rows of a store are the plain rows, in some order, and `next` is the next serial of the plain rows
 pub record IsFaithful (store : State) (next : ℕ) (plain : PlainState) : Type 0 where
   pub rows : IsPermutation (live_rows store) plain.rows
   pub serial : next ≡ plain.next
 
--- the partition's invariant: every cell is in one place and every bound is obeyed; the serials of the live rows
--- differ and are below the next; the cells are at most the limit and the commands accepted, the freed cells and
--- pending deletions together at most the commands after the first, the insertions at most the commands; and the
--- commands since the last checkpoint are at most the history's limit, and those since the opening at most the life
+-- The invariant of a partition. Its limits are valid (`AreLimits`). Its store is intact and has the same keys; the
+-- serials of its live rows differ and are below the next one. There are at most as many cells as their limit, and as
+-- commands accepted; at most as many frees of cells and pending deletions together as commands after the first; and at
+-- most as many insertions as commands. The commands since the last checkpoint are at most the history's limit, and
+-- those since the opening at most the life.
 pub record IsSound (part : Part) : Type 0 where
   pub limited : AreLimits part.limits
   pub numbered : IsNumbered (state_of part)
@@ -86,110 +88,112 @@ abbrev pub checkpointed_part : Part → Part
 checkpointed_part part = record part { checkpointed = accepted_of (table_of part); since = 0 }
 
 -- whether all pending rows are merged before a range is read: under auto, if 64 times the pending insertions are at
--- least the column's rows times its pieces, which always holds if the column is empty
+-- least the column's rows times its pieces, as always if the column is empty; never under the other policies
 abbrev pub is_merged_first : Policy → State → Bool
 is_merged_first Auto s = nat_le (length s.column * (length s.marks + 1)) (64 * length s.pending_in)
 is_merged_first policy s = false
 
--- the policy by which a range is read: ripple under auto
+-- the policy by which pending rows are merged for a range that is read: ripple under auto, else the same policy
 abbrev pub read_by : Policy → Policy
 read_by Auto = Ripple
 read_by policy = policy
 
--- where a merge by this policy moves rows: under ripple, near the range; nothing is said of the others
+-- where a merge from `s` to `t` moves rows: under ripple, near the range (`MergesNear`); else nothing is said
 abbrev pub LeavesNear : Policy → State → State → Range → Type 0
 LeavesNear Ripple s t r = MergesNear s t r
 LeavesNear _ s t r = Unit {0}
 
--- how a store is cracked for a range: at its ends; under auto, first beside the ends that say little about their
--- pieces
+-- how a store is cracked for a range: at the range's ends; under auto, first perhaps at a further bound near each
+-- end, as `CracksFurther` says
 abbrev pub CracksBy : Policy → State → State → Range → Type 0
 CracksBy Auto s t r = CracksFurther s t r
 CracksBy _ s t r = Refines s t r
 
--- a store is cracked for a range, which leaves it intact, and then the step `Does` is made
+-- a store is cracked for a range by this policy, which leaves it intact, and then the step `Does` leads to `t`
 pub record CracksAnd (policy : Policy) (Does : State → State → Type 0) (s t : State) (r : Range) : Type 0 where
   pub cracked : State
   pub cracks : CracksBy policy s cracked r
   pub intact : IsIntact cracked []
   pub does : Does cracked t
 
--- a store is cracked for a range, and then merged, by this policy
+-- a store is cracked for a range by this policy, and then merged for it by the policy of `read_by`
 abbrev pub CracksAndMerges : Policy → State → State → Range → Type 0
 CracksAndMerges policy s t r = CracksAnd policy (λ (cracked merged : State). Merges (read_by policy) cracked merged r × LeavesNear (read_by policy) cracked merged r × Tallies (read_by policy) cracked merged) s t r
 
--- all pending rows are merged if that is due, by a read of all keys under complete, and then the step `Does` is
--- made
+-- if `due` is true, all pending rows are merged first, by a read of all keys under complete; otherwise nothing is done
+-- first. Then the step `Does` leads to `t`
 pub record ReadiesAnd (due : Bool) (Does : State → State → Type 0) (s t : State) : Type 0 where
   pub ready : State
   pub readies : ((due ≡ false) × (ready ≡ s)) ⊎ ((due ≡ true) × CracksAndMerges Complete s ready s.keys)
   pub does : Does ready t
 
--- bounds may be forgotten under auto; the other policies forget none
+-- under auto bounds may be forgotten, and nothing else changes; under the other policies nothing changes
 abbrev pub MayCoarsen : Policy → State → State → Type 0
 MayCoarsen Auto s t = Coarsens s t
 MayCoarsen policy s t = t ≡ s
 
--- bounds may be forgotten, and then the step `Does` is made
+-- bounds may be forgotten, as `MayCoarsen` says, and then the step `Does` leads to `t`
 pub record CoarsensAnd (policy : Policy) (Does : State → State → Type 0) (s t : State) : Type 0 where
   pub coarse : State
   pub coarsens : MayCoarsen policy s coarse
   pub does : Does coarse t
 
--- all pending rows are merged if that is due, then bounds may be forgotten, and then a range is read
+-- a store is settled for a range: all pending rows are merged if `is_merged_first` says so, then bounds may be
+-- forgotten, and then the store is cracked and merged for the range
 abbrev pub Settles : Policy → State → State → Range → Type 0
 Settles policy s t r = ReadiesAnd (is_merged_first policy s) (CoarsensAnd policy (λ (coarse settled : State). CracksAndMerges policy coarse settled r)) s t
 
--- what a read of a range does to a store: nothing if the range is empty
+-- what a read of a range does to a store: nothing if the range is empty, otherwise what `Settles` says
 pub record ReadsRange (policy : Policy) (s t : State) (r : Range) : Type 0 where
   pub empty : r.high ≤ r.low → t ≡ s
   pub settled : r.low < r.high → Settles policy s t r
 
--- what a read of a range that found no memory did to a store: nothing, or the store was cracked for the range, and
--- the merge stopped on the way
+-- what the cracking and merging of a store for a range did if it found no memory: nothing but the room for handles
+-- changed; or the store was cracked, and the merge stopped on the way
 abbrev pub StopsAt : Policy → State → State → Range → Type 0
 StopsAt policy s t r = SameButRoom s t ⊎ ((r.low < r.high) × CracksAnd policy (λ (cracked stopped : State). Stops (read_by policy) cracked stopped r) s t r)
 
--- no memory was found, either while all pending rows were merged, which was due, or afterwards, where `Stops` holds
+-- no memory was found: either in the merge of all pending rows that comes first if `due` is true, or later, by `Stops`
 abbrev pub ReadiesOr : Bool → (State → State → Type 0) → State → State → Type 0
 ReadiesOr due Stops s t = ((due ≡ true) × StopsAt Complete s t s.keys) ⊎ ReadiesAnd due Stops s t
 
--- what a read of a range that found no memory did to a store: it stopped while all pending rows were merged first,
--- or afterwards
+-- what a read of a range that found no memory did to a store: it stopped in the merge of all pending rows that
+-- `is_merged_first` asks for, or later
 abbrev pub StopsRead : Policy → State → State → Range → Type 0
 StopsRead policy s t r = ReadiesOr (is_merged_first policy s) (CoarsensAnd policy (λ (coarse stopped : State). StopsAt policy coarse stopped r)) s t
 
--- what is done to a store before the reply to a command: if it has a range, the part of it that is within the keys
--- is read
+-- what is done to a store before the reply to a command: if the command has a range, the part of it that is within
+-- `keys` is read; otherwise nothing changes
 abbrev pub Prepares : Policy → Range → Option Range → State → State → Type 0
 Prepares policy keys None s t = t ≡ s
 Prepares policy keys (Some range) s t = ReadsRange policy s t (clipped range keys)
 
--- what a command that found no memory did to a store after cells were freed if that was due: its range, if any, may
--- have been read in part
+-- what a command that found no memory did to a store, without the freeing of cells that may come first: if it has a
+-- range, the part of it that is within `keys` may have been read in part; otherwise only the room for handles changed
 abbrev pub SparesCleared : Policy → Range → Option Range → State → State → Type 0
 SparesCleared policy keys None s t = SameButRoom s t
 SparesCleared policy keys (Some range) s t = StopsRead policy s t (clipped range keys)
 
--- what is done to a store after the reply to a command: its change, if any, is made
+-- what is done to a store after the reply to a command: its change, if any; an inserted row gets the serial `next`
 abbrev pub Performs : ℕ → Option Change → State → State → Type 0
 Performs next None s t = t ≡ s
 Performs next (Some (Place key payload)) s t = SameButRoom (row_inserted (row_with (record { 0 = next }) key payload) s) t
 Performs next (Some (Remove serial)) s t = Removes (pending_by s serial.0) serial.0 s t
 Performs next (Some (Rewrite serial key payload)) s t = Rewrites (pending_by s serial.0) (row_with serial key payload) s t
 
--- what an answered command does to a store of these keys after cells are freed if that is due: the store is
--- prepared, and then the change is made
+-- what an answered command does to a store, after the freeing of cells that may come first: what `Prepares` says, and
+-- then its change, if any; an inserted row gets the serial `next`
 pub record ServesCleared (policy : Policy) (keys : Range) (next : ℕ) (command : Command) (s t : State) : Type 0 where
   pub ready : State
   pub prepared : Prepares policy keys (range_of command) s ready
   pub performed : Performs next (change_of command) ready t
 
--- what an answered command does to a partition's store: if it lacks a cell, all pending rows are merged first
+-- what an answered command does to the store of the partition `p`, which becomes `t`: if the command lacks a cell and
+-- upkeep may free some, all pending rows are merged first; then what `ServesCleared` says is done
 abbrev pub Serves : Policy → Part → Command → State → Type 0
 Serves policy p command t = ReadiesAnd (is_cleared_first p.limits p.store (change_of command)) (ServesCleared policy p.keys p.next command) p.store t
 
--- what a command that found no memory did to a partition's store: it stopped while cells were freed first, or
--- afterwards
+-- what a command that found no memory did to the store of the partition `p`, which became `t`: it stopped while cells
+-- were freed first, or afterwards, as `SparesCleared` says
 abbrev pub Spares : Policy → Part → Command → State → Type 0
 Spares policy p command t = ReadiesOr (is_cleared_first p.limits p.store (change_of command)) (SparesCleared policy p.keys (range_of command)) p.store t

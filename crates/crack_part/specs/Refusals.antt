@@ -13,21 +13,21 @@ use Rattle.crack_part.specs.Parts.{Part, table_of}
 use Rattle.crack_part.specs.Upkeep.{is_full}
 use Rattle.crack_part.specs.Cells.{is_without_cell}
 
--- whether there is no key, or it is one of these
+-- whether a command's key is one of `keys`; true if the command has no key
 abbrev pub is_key_in : Range → Option Key → Bool
 is_key_in keys None = true
 is_key_in keys (Some key) = is_in keys key.0
 
--- why a partition with these limits accepts no more commands, if it doesn't: as many as its history's limit were
--- accepted since the last checkpoint, and upkeep is on request; or as many as its life were since its opening
+-- why a partition with these limits and this plain table accepts no more commands: `HistoryFull` if its history is
+-- full (`is_full`); else `LifeOver` if it accepted as many in total as the life allows; else `None`
 abbrev pub stopped_by : Limits → PlainView → Option Refusal
 stopped_by limits table = if is_full limits table.since then Some (HistoryFull limits.history) else (if nat_le limits.life (accepted_of table) then Some LifeOver else None)
 
--- the first cause to refuse a command, if any: its key is none of these, no more commands are accepted, or a cell
--- is missing
+-- the first of these causes to refuse a command, or none: `KeyOutside` if it has a key that is none of `keys`; `stop`,
+-- if there is one, for which the partition accepts no more commands; `NoCell` if `lacks` is true
 abbrev pub first_cause : Range → Option Refusal → Bool → Command → Option Refusal
 first_cause keys stop lacks command = if is_key_in keys (key_of command) then option_or stop (if lacks then Some NoCell else None) else Some KeyOutside
 
--- why a partition refuses a command, if it does
+-- why a partition refuses a command whatever memory there is, by `first_cause`; `None` if it doesn't
 abbrev pub refusal_of : Part → Command → Option Refusal
 refusal_of part command = first_cause part.keys (stopped_by part.limits (table_of part)) (is_without_cell part.limits part.store (change_of command)) command

@@ -18,8 +18,8 @@ use crate::replies::{gone, rewritten};
 use crack_row::{Command, Key, Payload, Refusal, Reply, Row, Serial};
 use crack_store::Store;
 
-/// Inserts a row with the serial `next`, raises `next` by one, and returns the reply. O(1), amortised. Refused with
-/// `OutOfMemory` if no memory is found; then nothing has changed.
+/// Inserts a row with the serial `next` and this key and payload, raises `next` by one, and returns the reply. O(1),
+/// amortised. Refused with `OutOfMemory` if no memory is found; then nothing has changed.
 #[inline(always)]
 pub(crate) fn insert(
     store: &mut Store,
@@ -49,9 +49,9 @@ pub(crate) fn insert(
     Ok(Reply::Placed(row.serial))
 }
 
-/// Deletes the row with this serial, if there is one, adjusts the known sums, and returns the reply. `next` is the
-/// serial of the next inserted row. O(log pieces), amortised. Refused with `OutOfMemory` if no memory is found;
-/// then nothing has changed.
+/// Deletes the row with this serial, adjusts the known sums, and returns the reply; if there is no such row, nothing
+/// changes, and the reply is `NoRow`. `next` is the serial of the next inserted row. O(log pieces), amortised. Refused
+/// with `OutOfMemory` if no memory is found; then nothing has changed.
 #[inline(never)]
 pub(crate) fn remove(
     store: &mut Store,
@@ -80,8 +80,9 @@ pub(crate) fn remove(
     Ok(gone(row))
 }
 
-/// Replaces the row with the same serial, if there is one, adjusts the known sums, and returns the reply. `next` is
-/// the serial of the next inserted row. O(log pieces), amortised. Refused as `remove` is.
+/// Replaces the row that has the serial of `row` with `row`, adjusts the known sums, and returns the reply; if there
+/// is no such row, nothing changes, and the reply is `NoRow`. `next` is the serial of the next inserted row. O(log
+/// pieces), amortised. Refused with `OutOfMemory` if no memory is found; then nothing has changed.
 #[inline(never)]
 pub(crate) fn rewrite(
     store: &mut Store,

@@ -12,11 +12,12 @@ use crack_store::Store;
 /// A bound is forgotten if the two pieces beside it have at most this many rows together.
 const FEW_ROWS: usize = 1024;
 
-/// The most bounds that a pass before a read looks at, in less than 1 ms.
+/// The most bounds that one pass looks at. A read waits for the pass before it, less than 1 ms for so many bounds.
 const MOST_BOUNDS: usize = 512;
 
-/// Makes a pass over the bounds under `Policy::Auto`, if one is due: forgets bounds, and joins the known sums of
-/// their pieces. Moves no row. Takes no memory.
+/// Under `Policy::Auto`, makes a pass over the store's bounds if one is due (`Passes::due`): it forgets some of them,
+/// and for each joins the known sums of the two pieces beside it. Does nothing under the other policies. Moves no row.
+/// Takes no memory. O(1) without a pass, else O(log bounds) for each of at most `MOST_BOUNDS` bounds.
 #[inline(always)]
 pub(crate) fn coarsen(store: &mut Store, passes: &mut Passes, known: &mut KnownSums, policy: Policy)
     ensures coarse { store.new ≡ coarsened (due_by policy passes.old store.old) store.old }
@@ -34,7 +35,8 @@ pub(crate) fn coarsen(store: &mut Store, passes: &mut Passes, known: &mut KnownS
     }
 }
 
-/// Makes a pass over the bounds above a key: forgets the bounds that it finds, and records where it stopped.
+/// Makes a pass over at most `MOST_BOUNDS` of the bounds above `key`: forgets those whose two pieces have at most
+/// `FEW_ROWS` rows together, joins the known sums of their pieces, and records in `passes` where it stopped.
 #[inline(never)]
 fn forget_after(store: &mut Store, passes: &mut Passes, known: &mut KnownSums, key: Key)
     ensures coarse { store.new ≡ coarsened (Some key) store.old }

@@ -19,7 +19,7 @@ use std::marker::Model;
 /// rows would take longer than summing again.
 const MOST_PLACED: u64 = 256;
 
-/// A part with at most this many rows is summed itself, however few rows the rest of its piece has.
+/// A part of a piece with at most this many rows is summed itself, even if the rest of the piece has fewer rows.
 const FEW_ROWS: u64 = 512;
 
 /// The known sums of pieces, over the rows inserted before the serial `since`. They are sums of plain rows by key,
@@ -49,8 +49,9 @@ impl KnownSums {
         }
     }
 
-    /// Records that the row with this serial was deleted: `row`, or `None` if there was none. `next` is the serial
-    /// of the next inserted row. O(log pieces), amortised.
+    /// Adjusts the known sums after the deletion of the row with this serial, or forgets them if more than
+    /// `MOST_PLACED` rows were inserted since they were last used. `row` is the deleted row; if it is `None`, there
+    /// was no such row, and nothing changes. `next` is the serial of the next inserted row. O(log pieces), amortised.
     pub(crate) fn remove(&mut self, serial: Serial, row: Option<Row>, next: u64)
         ensures knows { (plain : PlainState) → IsNumbered plain → row_in plain.rows serial ≡ row →
             KnowsSums self.old plain → KnowsSums self.new (after plain (Command.Delete serial)) }
@@ -65,7 +66,8 @@ impl KnownSums {
         }
     }
 
-    /// Records that `row` replaced `before`, the row with its serial. If `before` is `None`, there was no such row,
+    /// Adjusts the known sums after `row` replaced `before`, the row with the same serial, or forgets them if more
+    /// than `MOST_PLACED` rows were inserted since they were last used. If `before` is `None`, there was no such row,
     /// and nothing changes. `next` is the serial of the next inserted row. O(log pieces), amortised.
     pub(crate) fn replace(&mut self, before: Option<Row>, row: Row, next: u64)
         ensures knows { (plain : PlainState) → IsNumbered plain → row_in plain.rows row.serial ≡ before →
@@ -83,7 +85,8 @@ impl KnownSums {
         }
     }
 
-    /// Joins the two pieces between which a bound was forgotten: their sum is known if both sums are. O(log pieces).
+    /// Joins the two pieces beside `bound`, which was forgotten: the sum of the joined piece is known if both sums
+    /// were known and their total fits into 128 bits. Does nothing if one of the two doesn't exist. O(log pieces).
     pub(crate) fn join(&mut self, bound: InnerBound)
         ensures knows { (plain : PlainState) → KnowsSums self.old plain → KnowsSums self.new plain }
         ensures joins { self.new ≡ record self.old { pieces = joined_below bound.0 self.old.pieces } }
@@ -91,9 +94,10 @@ impl KnownSums {
         self.pieces.join(bound.key());
     }
 
-    /// The sum of a range for which the store is settled. Parts whose sum isn't known are summed in the store, and
-    /// are known afterwards. `next` is the serial of the next inserted row. `None` if no memory is found, or if 128
-    /// bits aren't enough. O(log pieces) once the sums of the pieces in the range are known.
+    /// The sum of the payloads of the rows in a range, for which the store must be settled: cracked at its ends, with
+    /// no row in it pending. Parts whose sum isn't known are summed in the store, and are known afterwards. `next` is
+    /// the serial of the next inserted row. `None` if no memory is found, or if 128 bits aren't enough. O(log pieces)
+    /// once the sums of the pieces in the range are known.
     pub(crate) fn sum(&mut self, store: &Store, next: u64, range: KeyRange) -> Option<i128>
         requires filled { range.low < range.high }
         requires settled { IsSettled store.now range }
@@ -109,8 +113,9 @@ impl KnownSums {
         self.pieces.sum(range, &Settled { store, range })
     }
 
-    /// Adds the rows inserted since the sums were last used to the known sums, or forgets these if there are many
-    /// such rows. `next` is the serial of the next inserted row.
+    /// Adds the payloads of the rows that were inserted since the sums were last used to the known sums, or forgets
+    /// the sums if more than `MOST_PLACED` rows were inserted. `next` is the serial of the next inserted row. O(log
+    /// pieces) for each inserted row.
     fn catch_up(&mut self, store: &Store, next: u64)
         ensures knows { (plain : PlainState) → IsNumbered plain → IsFaithful store.now next plain →
             KnowsSums self.old plain → KnowsSums self.new plain × (self.new.since ≡ next) }
@@ -124,8 +129,9 @@ impl KnownSums {
         self.since = next;
     }
 
-    /// Forgets the sums if many rows were inserted since they were last used. The next sum would forget them
-    /// anyway, so a change needn't adjust them.
+    /// Forgets the sums if more than `MOST_PLACED` rows were inserted since they were last used; otherwise changes
+    /// nothing. `next` is the serial of the next inserted row. A deletion or an update calls this before it adjusts
+    /// the sums, because the next call of `sum` would forget them anyway.
     fn forget_if_late(&mut self, next: u64)
         ensures { self.new ≡ left_known next self.old }
     {
@@ -159,7 +165,8 @@ fn add(pieces: &mut PieceSums, row: Option<Row>)
     }
 }
 
-/// A store that is settled for a range of its keys, as a source of the sums of ranges.
+/// A source of the sums of ranges: a store that is settled for `range`, that is, cracked at its ends, with no row in
+/// it pending.
 #[derive(Clone, Copy)]
 struct Settled<'a> {
     store: &'a Store,
@@ -167,8 +174,9 @@ struct Settled<'a> {
 }
 
 impl Settled<'_> {
-    /// Whether the store is cracked at the ends of `range` and settled for it: `range` is a part of the settled
-    /// range, or no row in it is pending. O(log bounds), and a pass over the pending rows unless it is a part.
+    /// Whether the store is cracked at the ends of `range`, `range` lies within the store's keys, and no row in it is
+    /// pending. If `range` is a part of the settled range, only the bounds are looked up; otherwise the pending rows
+    /// are searched. O(log bounds), and in the second case a pass over the pending rows.
     #[inline]
     fn is_settled(&self, range: KeyRange) -> bool
         ensures cracked { IsTrue result → IsCracked self.now.store.now range }
@@ -214,10 +222,11 @@ impl SumSource for Settled<'_> {
 
     ghost says = { λ s low high sum. SaysSettled s.store.now s.range low high sum };
 
-    /// The sum of the range, read from the column; `None` if the store isn't settled for the range.
+    /// The sum of the payloads of the rows in `range`, read from the column. `None` unless the store is cracked at the
+    /// ends of `range`, `range` lies within the store's keys, and no row in it is pending (`is_settled`).
     fn sum(&self, range: KeyRange) -> Option<i128>
         ensures says { IfSome result (λ sum. SaysSettled self.now.store.now self.now.range range.low range.high sum) }
-        ensures told { self.now.range.low ≤ range.low → range.high ≤ self.now.range.high →
+        ensures found { self.now.range.low ≤ range.low → range.high ≤ self.now.range.high →
             IsCracked self.now.store.now range → IsSome result }
     {
         if !self.is_settled(range) {
@@ -226,8 +235,8 @@ impl SumSource for Settled<'_> {
         Some(self.store.sum_between(range))
     }
 
-    /// Whether the store is settled for the whole range, and the part has more than 512 rows and more than half of
-    /// the whole range's rows.
+    /// Whether the store is cracked at the ends of `part` and settled for `whole`, and `part` has more than 512 rows
+    /// and more than half of the rows of `whole`.
     fn prefers_rest(&self, part: KeyRange, whole: KeyRange) -> bool
         ensures { IsTrue result → HasMost self.now.store.now part whole }
     {

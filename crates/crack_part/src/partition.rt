@@ -52,6 +52,7 @@ pub struct Partition {
 
 // Written out, so that crates that use this one call this function, and prove nothing about the fields.
 impl Drop for Partition {
+    /// Drops each field that holds memory.
     fn drop(self) {
         let Partition {
             alloc: _,
@@ -95,8 +96,9 @@ impl Model for Partition {
 }
 
 impl Partition {
-    /// Opens a partition without rows, for these keys, that accepts at most `limit` commands between two
-    /// checkpoints. Takes no memory. Refused with `BadLimit` if the limit isn't 1 to `GREATEST_LIMIT`.
+    /// Opens a partition without rows, for these keys, that accepts at most `limit` commands between two checkpoints.
+    /// Its other limits are those of `Limits::of_history`. Takes no memory. O(1). Refused with `BadLimit` if the limit
+    /// is 0 or above `GREATEST_LIMIT`.
     pub fn open(alloc: Global, keys: KeyRange, limit: u64) -> Result<Partition, Refusal>
         ensures ok { IfOk result (λ p. (p.keys ≡ keys) × (p.limits ≡ of_history limit)) }
         ensures new { IfOk result (λ p. (p.next ≡ 0) × (p.checkpointed ≡ 0) × (p.since ≡ 0)) }
@@ -110,8 +112,8 @@ impl Partition {
         Partition::open_with(alloc, keys, Limits::of_history(limit))
     }
 
-    /// Opens a partition without rows, for these keys and with these limits. Takes no memory. Refused with
-    /// `BadLimit` if a limit isn't 1 to the greatest of its kind.
+    /// Opens a partition without rows, for these keys and with these limits. Takes no memory. O(1). Refused with
+    /// `BadLimit` if one of the limits is 0 or above the greatest of its kind.
     pub fn open_with(alloc: Global, keys: KeyRange, limits: Limits) -> Result<Partition, Refusal>
         ensures ok { IfOk result (λ p. (p.keys ≡ keys) × (p.limits ≡ limits)) }
         ensures new { IfOk result (λ p. (p.next ≡ 0) × (p.checkpointed ≡ 0) × (p.since ≡ 0)) }
@@ -153,9 +155,10 @@ impl Partition {
         self.store.live_rows()
     }
 
-    /// Makes a checkpoint: the count of commands since the last one is added to the count before it, set to 0, and
-    /// returned as it was. Cracks and merges nothing, changes no row and no later reply, and can't fail. Frees the
-    /// pending lists' unused memory. O(1) if these lists have no holes, else O(pending rows).
+    /// Makes a checkpoint, and returns how many commands were accepted since the last one. That number is added to the
+    /// count of commands up to the last checkpoint, and the count of commands since then becomes 0. Cracks and merges
+    /// nothing, changes no row and no later reply, and can't fail. Frees the pending lists' unused memory. O(1) if
+    /// these lists have no holes, else O(pending rows).
     pub fn checkpoint(&mut self) -> u64
         ensures since { result ≡ self.old.since }
         ensures checkpointed { self.new ≡ checkpointed_part self.old }
@@ -167,15 +170,15 @@ impl Partition {
         since
     }
 
-    /// The merge counts since the partition was opened. Takes no memory.
+    /// What merges have counted since the partition was opened. Takes no memory. O(1).
     pub fn tally(&self) -> MergeReport
         ensures { result ≡ self.now.store.tally }
     {
         self.store.tally()
     }
 
-    /// The layout as numbers, and the pieces of the column. Cracks and merges nothing, and isn't counted as a
-    /// command. Refused with `OutOfMemory` if no memory is found. O(pieces).
+    /// The partition's layout: its numbers of rows, pending rows and cells, and the pieces of its column. Cracks and
+    /// merges nothing, and isn't counted as a command. Refused with `OutOfMemory` if no memory is found. O(pieces).
     pub fn layout(&self) -> Result<Layout, Refusal>
         ensures ok { IfOk result (λ layout. IsLayoutOf self.now.store layout) }
         ensures equations { IfOk result (λ layout. IsLayout self.now.keys layout) }
@@ -185,7 +188,7 @@ impl Partition {
         self.store.layout()
     }
 
-    /// Why `apply` would refuse the command whatever memory there is; `None` if it wouldn't. O(1).
+    /// Why `apply` would refuse the command even if memory is found; `None` if it wouldn't refuse it then. O(1).
     pub fn refusal(&self, command: &Command) -> Option<Refusal>
         ensures { result ≡ refusal_of self.now command.now }
     {
@@ -207,31 +210,35 @@ impl Partition {
         self.store.row_of(serial)
     }
 
-    /// Whether a checkpoint is made before the next command that is answered.
+    /// Whether a checkpoint is made before the next command that is answered: upkeep is automatic, and as many
+    /// commands as the limit were accepted since the last checkpoint. O(1).
     pub fn is_due(&self) -> bool
         ensures { result ≡ is_due self.now.limits self.now.since }
     {
         self.is_at_limit() && is_automatic(self.limits.upkeep)
     }
 
-    /// Answers one command, and counts it.
+    /// Answers one command, and counts it. `policy` says how pending rows are merged if the command reads a range.
     ///
     /// If upkeep is automatic, two things may come first. If as many commands as the limit were accepted since the
-    /// last checkpoint, a checkpoint is made, as `checkpoint` does. If an insert, or an update of a row of the
-    /// column, finds no free cell and as many cells as the limit, while deletions are pending, all pending rows are
-    /// merged, as a count of all keys does under `Policy::Complete`.
+    /// last checkpoint, a checkpoint is made, as `checkpoint` does. If the command lacks a cell and deletions are
+    /// pending, all pending rows are merged, as a count of all keys does under `Policy::Complete`, which frees cells.
+    /// An insert takes a cell, and so does an update of a row of the column; they lack one if no cell is free and
+    /// there are as many cells as the limit.
     ///
     /// Refused, in this order: with `KeyOutside` if the command has a key that isn't the partition's, with
     /// `HistoryFull` if as many commands as the limit were accepted since the last checkpoint and upkeep is on
-    /// request, with `LifeOver` if as many were accepted as the life allows, with `NoCell` if a cell is missing and
-    /// upkeep frees none, with `OutOfMemory` if no memory is found. Only `OutOfMemory` may leave a change: no
-    /// checkpoint is made, but that merge may be made in part or as a whole. A command that reads a range may also
-    /// have cracked and merged for it, in part or as a whole, and forgotten bounds under `Policy::Auto`.
+    /// request, with `LifeOver` if as many were accepted as the life allows, with `NoCell` if the command lacks a cell
+    /// and upkeep frees none, with `OutOfMemory` if no memory is found. Only `OutOfMemory` may leave a change: no
+    /// checkpoint is made, but the merge that frees cells may be made in part or as a whole. A command that reads a
+    /// range may also have cracked and merged for it, in part or as a whole, and forgotten bounds under
+    /// `Policy::Auto`.
     ///
-    /// Without upkeep, an insert is O(1), amortised, and a delete or an update O(log pieces). A command that reads
-    /// a range cracks the pieces in which its ends fall, and merges what the range needs by the policy. A count is
-    /// then O(log pieces); so is a sum, with a step for each row of the pieces whose sum isn't known; a select is
-    /// O(m log m) for m rows in the range; O(m) if there is one for each 8 cells, and serials rise with the cells.
+    /// Without upkeep, an insert is O(1), amortised, and a delete or an update O(log pieces). A command that reads a
+    /// range cracks the pieces in which its ends fall, and merges what the range needs by the policy. A count is then
+    /// O(log pieces). So is a sum, with a step for each row of the pieces whose sum isn't known. A select is O(m log
+    /// m) for m rows in the range; it is O(m) if there are at most 8 cells for each of these rows, and serials rise
+    /// with the numbers of the cells.
     #[inline(always)]
     pub fn apply(&mut self, command: Command, policy: Policy) -> Result<Reply, Refusal>
         ensures reply { IfOk result (λ reply. reply ≡ reply_to (state_of self.old) command) }
@@ -253,8 +260,9 @@ impl Partition {
         self.apply_with_cell(command, policy)
     }
 
-    /// Answers one command, as `apply` does, and returns the reply with two copies. A list is copied, which may
-    /// also be refused with `OutOfMemory`.
+    /// Answers one command, as `apply` does, and returns the reply with two copies. The copies of a select's list take
+    /// memory and O(rows). Refused as `apply` is, and with `OutOfMemory` also if no memory is found for these copies;
+    /// then the command isn't counted.
     #[inline(always)]
     pub fn apply_copied(&mut self, command: Command, policy: Policy) -> Result<Copies, Refusal>
         ensures reply { IfOk result (λ copies. copies.reply ≡ reply_to (state_of self.old) command) }
@@ -284,7 +292,8 @@ impl Partition {
         }
     }
 
-    /// Answers a command for which no cell is missing, as `apply` does.
+    /// Answers a command as `apply` does, but frees no cells first: the command must not lack a cell. Refused as
+    /// `apply` is, but never with `NoCell`.
     #[inline(always)]
     fn apply_with_cell(&mut self, command: Command, policy: Policy) -> Result<Reply, Refusal>
         requires cell { lacks_cell self.old.limits.cells self.old.store (change_of command) ≡ false }
@@ -326,7 +335,8 @@ impl Partition {
         handed_on(self.apply_with_upkeep(command, policy))
     }
 
-    /// Answers a command that may need upkeep, as `apply` does.
+    /// Answers a command as `apply` does. First frees cells if the command lacks one, and the pending lists' unused
+    /// memory if a checkpoint is due (`is_due`).
     #[inline(never)]
     fn apply_with_upkeep(&mut self, command: Command, policy: Policy) -> Result<Reply, Refusal>
         ensures applies { Applies policy command self.old result self.new }
@@ -337,7 +347,8 @@ impl Partition {
         self.apply_with_cell(command, policy)
     }
 
-    /// Frees the pending lists' unused memory if a checkpoint is due. Contracts see no change.
+    /// Frees the pending lists' unused memory if a checkpoint is due (`is_due`); otherwise does nothing. Contracts see
+    /// no change.
     fn shrink_if_due(&mut self)
         ensures { self.new ≡ self.old }
     {
@@ -347,6 +358,7 @@ impl Partition {
     }
 
     /// Whether as many commands as the limit were accepted since the last checkpoint, or the command lacks a cell.
+    /// O(1).
     #[inline(always)]
     fn may_need_upkeep(&self, command: &Command) -> bool
         ensures { IsFalse result → lacks_cell self.now.limits.cells self.now.store (change_of command.now) ≡ false }
@@ -362,7 +374,8 @@ impl Partition {
         self.since >= self.limits.history
     }
 
-    /// Whether a command takes a cell while no cell is free and there are as many cells as the limit allows. O(1).
+    /// Whether a command takes a cell, as `takes_cell` says, while no cell is free and there are as many cells as the
+    /// limit allows. O(1).
     #[inline(always)]
     fn wants_cell(&self, command: &Command) -> bool
         ensures { result ≡ lacks_cell self.now.limits.cells self.now.store (change_of command.now) }
@@ -377,9 +390,9 @@ impl Partition {
         is_automatic(self.limits.upkeep) && self.store.pending_out() != 0
     }
 
-    /// Frees cells if a command lacks one: a merge of all pending rows takes the pending deletions out. Refused
-    /// with `NoCell` if upkeep is on request or no deletion is pending, and with `OutOfMemory` if no memory is
-    /// found.
+    /// Frees cells if the command lacks one: merges all pending rows, which frees the cells of the doomed rows. Does
+    /// nothing if the command lacks none. Refused with `NoCell` if upkeep is on request or no deletion is pending, and
+    /// with `OutOfMemory` if no memory is found.
     fn make_cell(&mut self, command: &Command) -> Result<(), Refusal>
         ensures frees { OnOk result (Frees self.old command.now self.new) }
         ensures err { IfErr result (λ e. FreesNone self.old command.now e self.new) }
@@ -394,8 +407,8 @@ impl Partition {
         self.clear()
     }
 
-    /// Merges all pending rows, which frees the cells of the pending deletions. Refused with `OutOfMemory` if no
-    /// memory is found; the merge may then be made in part.
+    /// Merges all pending rows, which frees the cells of the doomed rows; at least one deletion must be pending.
+    /// Refused with `OutOfMemory` if no memory is found; the merge may then be made in part.
     fn clear(&mut self) -> Result<(), Refusal>
         requires waits { 0 < length self.old.store.pending_out }
         ensures cleared { OnOk result (CracksAndMerges Policy.Complete self.old.store self.new.store
@@ -422,8 +435,8 @@ impl Partition {
         self.is_at_limit() && !is_automatic(self.limits.upkeep)
     }
 
-    /// Refuses a command for the first of these causes that holds: `KeyOutside`, `HistoryFull`, `LifeOver`. O(1).
-    /// Changes nothing.
+    /// Refuses a command for the first of these causes that holds: `KeyOutside`, `HistoryFull`, `LifeOver`. `Ok` if
+    /// none holds. O(1). Changes nothing.
     #[inline(always)]
     fn may_keep(&self, command: &Command) -> Result<(), Refusal>
         ensures ok { OnOk result (early_refusal_of self.now command.now ≡ None) }
@@ -444,7 +457,7 @@ impl Partition {
     }
 }
 
-/// Whether checkpoints are made automatically when they are due.
+/// Whether upkeep is automatic: a partition makes checkpoints and frees cells by itself when a command needs it.
 #[inline(always)]
 fn is_automatic(upkeep: Upkeep) -> bool
     ensures { result ≡ is_automatic upkeep }
@@ -463,7 +476,8 @@ fn lacks_cell(store: &Store, most: u64, command: &Command) -> bool
     store.cells() as u64 >= most && store.free_cells() == 0 && takes_cell(store, command)
 }
 
-/// Whether a command takes one more cell: an insert does, and an update of a row of the column. O(1).
+/// Whether a command takes one more cell: an insert does, and an update of a row that is in the column, not pending.
+/// O(1).
 #[inline(always)]
 fn takes_cell(store: &Store, command: &Command) -> bool
     ensures { result ≡ takes_cell store.now (change_of command.now) }
@@ -475,7 +489,8 @@ fn takes_cell(store: &Store, command: &Command) -> bool
     }
 }
 
-/// Whether the command has no key of its own, or one that is among these.
+/// Whether a partition with these keys takes the command: the command has no key of its own, or its key is one of
+/// them.
 #[inline(always)]
 fn allows(keys: KeyRange, command: &Command) -> bool
     ensures { result ≡ is_key_in keys (key_of command.now) }
@@ -486,8 +501,10 @@ fn allows(keys: KeyRange, command: &Command) -> bool
     }
 }
 
-/// Answers a command: settles the store for its range, replies, and makes its change. Refused with `OutOfMemory` if
-/// no memory is found; then the change isn't made, but the store may be settled in part or as a whole.
+/// Answers a command: settles the store for its range, if it has one, replies, and makes its change. Settled means
+/// cracked at the range's ends, with no row in the range pending. `keys` are the partition's keys. An inserted row
+/// gets the serial `next`, which then rises by one. Refused with `OutOfMemory` if no memory is found; then the change
+/// isn't made, but the store may be settled in part or as a whole.
 #[inline(always)]
 fn answer(
     store: &mut Store,
@@ -526,8 +543,9 @@ fn answer(
     carry_out(store, known, next, alloc, command, common)
 }
 
-/// Settles the store for the intersection of a range with the keys, and returns the intersection. Cracks and merges
-/// nothing, and returns `None`, if the intersection is empty or there is no range. Refused as `settle` is.
+/// Settles the store for the intersection of the command's range with `keys`, the partition's keys, and returns the
+/// intersection. Cracks and merges nothing, and returns `None`, if the intersection is empty or there is no range.
+/// Refused as `settle` is.
 #[inline(always)]
 fn prepare(
     store: &mut Store,
@@ -562,8 +580,9 @@ fn prepare(
 }
 
 /// Replies to a command, and makes its change. The store is settled for `common`, the intersection of the command's
-/// range with the keys; an inserted row gets the serial `next`. Refused with `OutOfMemory` if no memory is found
-/// for a list, or for a row that is inserted, deleted or updated.
+/// range with the keys; `None` if that is empty or there is no range. An inserted row gets the serial `next`, which
+/// then rises by one. Refused with `OutOfMemory` if no memory is found for a list, or for a row that is inserted,
+/// deleted or updated; then no row has changed.
 #[inline(always)]
 fn carry_out(
     store: &mut Store,
@@ -619,7 +638,8 @@ fn carry_out(
     }
 }
 
-/// Counts one more command since the last checkpoint. If a checkpoint is due, it is made first.
+/// Adds one command to `since`, the count of commands since the last checkpoint. If `since` has reached the history's
+/// limit and upkeep is automatic, a checkpoint is made first: `since` is added to `checkpointed`, and becomes 0.
 #[inline(always)]
 fn count_command(checkpointed: &mut u64, since: &mut u64, limits: Limits)
     requires { checkpointed.old + since.old + 1 < 2 ^ 64 }

@@ -8,15 +8,15 @@ use crack_store::Store;
 /// With at most this many bounds none is forgotten.
 const FEW_BOUNDS: usize = 64;
 
-/// A pass over the bounds is due once merges have moved this many rows for each bound.
+/// A pass over the bounds is due once merges have moved this many rows for each bound since the last pass.
 const MOVES_OF_A_BOUND: u64 = 64;
 
-/// With more bounds than this there may be too many. If there are, a pass is due once merges have moved any row,
-/// because a row that goes past all bounds delays a read.
+/// There are never too many bounds if there are at most this many. If there are too many, a pass is due once merges
+/// have moved any row, because a row that is carried past all bounds delays a read.
 const MANY_BOUNDS: usize = 4096;
 
-/// Bounds are too many only if there is more than one for this many rows. A pass leaves at most half as many bounds
-/// as that allows, so most bounds that the next pass meets are new.
+/// There are too many bounds only if there is more than one for every so many rows of the column. A pass leaves at
+/// most half as many bounds as that allows, so most bounds that the next pass meets are new.
 const ROWS_OF_A_BOUND: usize = 256;
 
 /// How far the passes over the bounds of a partition have come.
@@ -24,7 +24,7 @@ const ROWS_OF_A_BOUND: usize = 256;
 pub(crate) struct Passes {
     /// How many rows merges had moved and pulled when the last pass was made.
     counted: u64,
-    /// The key above which the next pass continues, if the last one stopped before the last bound.
+    /// The key above which the next pass continues, if the last one met as many bounds as a pass may.
     stopped: Option<Key>,
 }
 
@@ -39,7 +39,9 @@ impl Passes {
         }
     }
 
-    /// The key above which a pass over the store's bounds is due; `None` if no pass is due. O(1).
+    /// The key above which a pass over the store's bounds is due; `None` if no pass is due. With at most `FEW_BOUNDS`
+    /// bounds none is due. With more, it is the key at which the last pass stopped; if that met fewer bounds than it
+    /// might, or there was none, it is 0 once the bounds cost more than they save (`are_dear`). O(1).
     #[inline(always)]
     pub(crate) fn due(&self, store: &Store) -> Option<Key>
         ensures { result ≡ due_after self.now store.now }
@@ -58,7 +60,8 @@ impl Passes {
         }
     }
 
-    /// Records that a pass was made. `stopped` is the key at which it stopped; `None` if it reached the last bound.
+    /// Records that a pass was made. `stopped` is the key at which it stopped because it had met as many bounds as it
+    /// might; `None` if it met fewer. O(1).
     pub(crate) fn note(&mut self, store: &Store, stopped: Option<Key>)
         ensures { self.new ≡ record { counted = moves_of store.now; stopped = stopped } }
     {
@@ -67,7 +70,8 @@ impl Passes {
     }
 }
 
-/// Whether the bounds cost more than they save, after merges moved this many rows since the last pass. O(1).
+/// Whether the bounds cost more than they save, if merges moved `moves` rows since the last pass: there are too many
+/// bounds (`are_many`) and any row was moved, or `MOVES_OF_A_BOUND` rows or more were moved for each bound. O(1).
 #[inline(always)]
 fn are_dear(store: &Store, moves: u64) -> bool
     ensures { result ≡ are_dear moves store.now }
@@ -78,7 +82,8 @@ fn are_dear(store: &Store, moves: u64) -> bool
     moves / MOVES_OF_A_BOUND >= store.bounds() as u64
 }
 
-/// Whether there are so many bounds that a row that goes past all of them takes too long. O(1).
+/// Whether there are too many bounds: more than `MANY_BOUNDS`, and more than one for every `ROWS_OF_A_BOUND` rows of
+/// the column. O(1).
 #[inline(always)]
 fn are_many(store: &Store) -> bool
     ensures { result ≡ are_many store.now }
@@ -87,7 +92,7 @@ fn are_many(store: &Store) -> bool
     MANY_BOUNDS < bounds && store.column_len() / ROWS_OF_A_BOUND < bounds
 }
 
-/// The number of rows that merges have moved and pulled.
+/// The number of rows that merges have moved and pulled together; `u64::MAX` if it is greater. O(1).
 #[inline(always)]
 fn moves_of(store: &Store) -> u64
     ensures { result ≡ moves_of store.now }

@@ -1,4 +1,4 @@
-//! Reads of a range of a store that is settled for it.
+//! Reads of a range of a store that is settled for it: cracked at its ends, with no row in it pending.
 ghost use Rattle.std.specs.Prelude.{◌≡◌, ◌<◌, ◌<ℤ◌, neg_ℤ, pos, ◌^◌, ◌↔◌, List, count_by, IfOk, IfErr, IfSome, IsTrue};
 ghost use Rattle.std.specs.List.Sorted.{IsPermutation, IsNonDecreasingBy};
 ghost use Rattle.crack_row.specs.Ranges.{Range, in_range};
@@ -22,9 +22,9 @@ const GREATEST_SUM: i128 = 79228162514264337593543950336;
 /// How many cells are read in order in about the time in which one is read at random.
 const CELLS_AHEAD: usize = 8;
 
-/// How many rows have their key in a range: the difference of two places of the column. `common` is the
-/// intersection of the range with the partition's keys, for which the store must be settled, or `None` if it is
-/// empty.
+/// How many rows have their key in a range: the difference of two places of the column. `common` is the intersection
+/// of the range with the partition's keys, for which the store must be settled; `None` if it is empty, and the count
+/// is then 0. O(log bounds).
 #[inline(never)]
 pub(crate) fn count(store: &Store, common: Option<KeyRange>) -> u64
     requires settled { IfSome common (λ r. IsSettled store.now r) }
@@ -38,8 +38,10 @@ pub(crate) fn count(store: &Store, common: Option<KeyRange>) -> u64
     }
 }
 
-/// The sum of the payloads of the rows whose key is in a range, with `common` as for `count`. Adds the known sums
-/// of pieces, and reads the column for the others. `next` is the serial of the next inserted row.
+/// The sum of the payloads of the rows whose key is in a range. `common` is the intersection of the range with the
+/// partition's keys, for which the store must be settled; `None` if it is empty, and the sum is then 0. Adds the known
+/// sums of pieces, and reads the column for the other pieces. `next` is the serial of the next inserted row. O(log
+/// pieces) once the sums of the pieces in the range are known.
 #[inline(never)]
 pub(crate) fn sum(store: &Store, known: &mut KnownSums, next: u64, common: Option<KeyRange>) -> i128
     requires filled { IfSome common (λ r. r.low < r.high) }
@@ -59,15 +61,16 @@ pub(crate) fn sum(store: &Store, known: &mut KnownSums, next: u64, common: Optio
     }
 }
 
-/// Whether rows can have this sum: it is between -2^96 and 2^96.
+/// Whether the rows of a partition can have this sum: it is above -2^96 and below 2^96.
 fn is_small(sum: i128) -> bool
     ensures { IsTrue result ↔ (neg_ℤ (pos (2 ^ 96)) <ℤ sum) × (sum <ℤ pos (2 ^ 96)) }
 {
     -GREATEST_SUM < sum && sum < GREATEST_SUM
 }
 
-/// The rows whose key is in a range, by rising serial, with `common` as for `count`. Refused with `OutOfMemory` if no
-/// memory is found.
+/// The rows whose key is in a range, by rising serial. `common` is the intersection of the range with the partition's
+/// keys, for which the store must be settled; `None` if it is empty, and the list is then empty. Refused with
+/// `OutOfMemory` if no memory is found.
 #[inline(never)]
 pub(crate) fn select(
     store: &Store,
@@ -86,9 +89,9 @@ pub(crate) fn select(
     }
 }
 
-/// The rows whose key is in a range, for which the store is settled, by rising serial: the live rows of a pass over
-/// the cells if there is one for each `CELLS_AHEAD` cells, else those between two places of the column. Refused with
-/// `OutOfMemory` if no memory is found.
+/// The rows whose key is in a range, for which the store is settled, by rising serial. If the range has at least one
+/// row for every `CELLS_AHEAD` cells, they are found by a pass over all cells, otherwise between two places of the
+/// column. Refused with `OutOfMemory` if no memory is found.
 fn rows_of(store: &Store, range: KeyRange) -> Result<Vec<Row>, Refusal>
     requires settled { IsSettled store.now range }
     ensures rows { IfOk result (λ rows. IsPermutation (stretch_rows store.now range) rows.items) }

@@ -18,7 +18,7 @@ pub struct Copies {
     pub kept: Reply,
 }
 
-/// The reply to a delete that found this row, if any.
+/// The reply to a delete that found this row: `Gone` with the row, or `NoRow` if it found none.
 pub(crate) fn gone(row: Option<Row>) -> Reply
     ensures is { result ≡ gone row }
     ensures flat { IsFlat result }
@@ -30,7 +30,7 @@ pub(crate) fn gone(row: Option<Row>) -> Reply
     }
 }
 
-/// The reply to an update that found this row, if any.
+/// The reply to an update that found this row: `Changed`, or `NoRow` if it found none.
 pub(crate) fn rewritten(row: Option<Row>) -> Reply
     ensures is { result ≡ rewritten row }
     ensures flat { IsFlat result }
@@ -42,7 +42,7 @@ pub(crate) fn rewritten(row: Option<Row>) -> Reply
     }
 }
 
-/// Makes the copies of a reply. Refused with `OutOfMemory` if no memory is found for the copies of a list.
+/// Returns a reply with two copies of it. Refused with `OutOfMemory` if no memory is found for the copies of a list.
 #[inline(always)]
 pub(crate) fn copied(reply: Reply, alloc: Global) -> Result<Copies, Refusal>
     ensures ok { IfOk result (λ copies. (copies.reply ≡ reply) × (copies.receipt ≡ reply) × (copies.kept ≡ reply)) }

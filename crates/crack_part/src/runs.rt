@@ -9,11 +9,12 @@ use crate::partition::Partition;
 use crack_row::{Key, KeyNumber, KeyRange, PayloadNumber, Refusal, Serial};
 
 impl Partition {
-    /// Inserts rows, the first ones of these lists of keys and payloads, each as `apply` inserts it, and returns how
-    /// many. Takes as many as need no upkeep and aren't refused: up to the first key that isn't the partition's, and
-    /// up to the limits of the commands since the last checkpoint, of the life and of the cells; fewer only if no
-    /// memory is found for the next row. Refused with `OutOfMemory` if no memory is found for the first one. O(rows
-    /// inserted), except for growth.
+    /// Inserts rows, each as `apply` inserts it, and returns how many. Row k has the key `keys[k]` and the payload
+    /// `payloads[k]`; the lists have the same length. Stops before the first row whose key isn't the partition's, and
+    /// before the first for which a limit is reached: that of the commands since the last checkpoint, of the life, or
+    /// of the cells. At such a limit `apply` would refuse the row, or need upkeep first. Returns 0 if that is the
+    /// first row. Stops earlier only if no memory is found for the next row. Refused with `OutOfMemory` if no memory
+    /// is found for the first row. O(rows inserted), except for growth.
     pub fn insert_run(
         &mut self,
         keys: &[KeyNumber],
@@ -42,8 +43,8 @@ impl Partition {
         Ok(taken)
     }
 
-    /// How many rows may be inserted next without upkeep, and without a refusal for another cause than their keys or
-    /// lack of memory. O(1).
+    /// How many rows can be inserted next before an insert needs upkeep, or is refused for a cause that is neither its
+    /// key nor a lack of memory. O(1).
     fn inserts_left(&self) -> usize
         ensures history { self.now.since + result ≤ self.now.limits.history }
         ensures life { accepted_of (table_of self.now) + result ≤ self.now.limits.life }
@@ -56,7 +57,7 @@ impl Partition {
     }
 }
 
-/// How many keys of a list, from the first on, are in a range, up to `most`. O(result).
+/// How many keys at the start of a list are in the range, before the first one that isn't; at most `most`. O(result).
 fn keys_within(range: KeyRange, keys: &[KeyNumber], most: usize) -> usize
     ensures few { result ≤ length keys.now }
     ensures most { result ≤ most }

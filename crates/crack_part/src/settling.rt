@@ -19,11 +19,12 @@ use crack_store::{MergeReport, Store};
 use std::alloc::Global;
 use std::mem;
 
-/// Settles the store for a range: cracks the column at its ends, and merges until no row in it is pending. Under
-/// `Policy::Auto`, all pending rows are merged first if many insertions are pending, as a count of all keys does
-/// under `Policy::Complete`; then bounds may be forgotten, the store is also cracked beside ends that say little
-/// about their pieces, and rows are merged as under `Policy::Ripple`. Refused with `OutOfMemory` if no memory is
-/// found; what was merged, forgotten and cracked by then stays so.
+/// Settles the store for a range: cracks the column at its ends, and merges until no row in it is pending. `keys` are
+/// the partition's keys, and the range lies within them. Under `Policy::Auto`, four steps are made. First, if many
+/// insertions are pending (`has_many_pending`), all pending rows are merged, as a count of all keys does under
+/// `Policy::Complete`. Then bounds may be forgotten (`coarsen`). Then the column is cracked, perhaps also at further
+/// bounds near the range's ends. Then rows are merged as under `Policy::Ripple`. Refused with `OutOfMemory` if no
+/// memory is found; what was merged, forgotten and cracked before stays so.
 #[inline(never)]
 pub(crate) fn settle(
     store: &mut Store,
@@ -48,7 +49,8 @@ pub(crate) fn settle(
     crack_and_merge(store, alloc, keys, range, policy)
 }
 
-/// Merges all pending rows if `is_merged_first` says so. Refused as `crack_and_merge` is.
+/// Merges all pending rows if `is_merged_first` says so; otherwise does nothing. `keys` are the partition's keys.
+/// Refused with `OutOfMemory` if no memory is found; the merge may then be made in part.
 #[inline(always)]
 fn make_ready(
     store: &mut Store,
@@ -69,8 +71,8 @@ fn make_ready(
     Ok(())
 }
 
-/// Whether all pending rows are merged before a range is read: under `Policy::Auto`, if many insertions are
-/// pending. O(1).
+/// Whether all pending rows are merged before a range is read: under `Policy::Auto`, if many insertions are pending
+/// (`has_many_pending`); under the other policies, never. O(1).
 #[inline(always)]
 fn is_merged_first(policy: Policy, store: &Store) -> bool
     ensures { result ≡ is_merged_first policy store.now }
@@ -81,8 +83,9 @@ fn is_merged_first(policy: Policy, store: &Store) -> bool
     }
 }
 
-/// Cracks the store at the ends of a range, and merges by the policy what the range needs. Refused with
-/// `OutOfMemory` if no memory is found; the store may then be cracked, and merged in part.
+/// Cracks the store at the ends of a range, and merges by the policy until no row in the range is pending. `keys` are
+/// the partition's keys. Refused with `OutOfMemory` if no memory is found; the store may then be cracked, and merged
+/// in part.
 #[inline(never)]
 pub(crate) fn crack_and_merge(
     store: &mut Store,
@@ -108,8 +111,8 @@ pub(crate) fn crack_and_merge(
     merge_cracked(store, alloc, keys, range, policy)
 }
 
-/// Cracks the store at the ends of a range. Under `Policy::Auto`, cracks first beside each end that says little
-/// about its piece. Refused with `OutOfMemory` if no memory is found; then nothing has changed.
+/// Cracks the store at the ends of a range. Under `Policy::Auto`, it may first crack near each end at a further bound,
+/// as `Store::crack_further` does. Refused with `OutOfMemory` if no memory is found; then nothing has changed.
 #[inline(always)]
 fn crack(store: &mut Store, range: KeyRange, policy: Policy) -> Result<(), Refusal>
     ensures cracked { OnOk result (CracksBy policy store.old store.new range) }
@@ -125,9 +128,9 @@ fn crack(store: &mut Store, range: KeyRange, policy: Policy) -> Result<(), Refus
     }
 }
 
-/// Merges by the policy what a range needs, at whose ends the store must be cracked. Refused with `OutOfMemory` if
-/// no memory is found; the merge may then be made in part. Never inlined: it takes stack for two stores by value,
-/// which a range without pending rows doesn't need.
+/// Merges by the policy until no row in the range is pending. The store must be cracked at the range's ends. `keys`
+/// are the partition's keys. Refused with `OutOfMemory` if no memory is found; the merge may then be made in part.
+/// Never inlined: it takes stack for two stores by value, which a range without pending rows doesn't need.
 #[inline(never)]
 fn merge_cracked(
     store: &mut Store,
@@ -158,8 +161,9 @@ fn merge_cracked(
     }
 }
 
-/// Merges by the policy what a range needs, at whose ends the store must be cracked. `Policy::Auto` merges as
-/// `Policy::Ripple` here. A refusal returns the store too, merged in part.
+/// Merges by the policy until no row in the range is pending, and returns the store and what the merge counted. The
+/// store must be cracked at the range's ends. `Policy::Auto` merges as `Policy::Ripple` here. Refused with
+/// `OutOfMemory` if no memory is found, with the store, merged in part.
 fn merge(
     store: Store,
     range: KeyRange,

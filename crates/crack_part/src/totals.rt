@@ -10,14 +10,14 @@ use crack_plain::Statistics;
 use crack_row::{KeyRange, Limits};
 
 impl Partition {
-    /// The range of keys that the rows may have.
+    /// The range of keys that the rows may have. O(1).
     pub fn keys(&self) -> KeyRange
         ensures { result ≡ self.now.keys }
     {
         self.keys
     }
 
-    /// The limits of the partition.
+    /// The limits of the partition. O(1).
     pub fn limits(&self) -> Limits
         ensures value { result ≡ self.now.limits }
         ensures limited { AreLimits self.now.limits }
@@ -25,7 +25,7 @@ impl Partition {
         self.limits
     }
 
-    /// The number of commands accepted since the partition was opened.
+    /// The number of commands accepted since the partition was opened. O(1).
     pub fn accepted(&self) -> u64
         ensures value { result ≡ accepted_of (table_of self.now) }
         ensures lived { result ≤ self.now.limits.life }
@@ -33,14 +33,14 @@ impl Partition {
         self.checkpointed + self.since
     }
 
-    /// The number of commands accepted up to the last checkpoint.
+    /// The number of commands accepted up to the last checkpoint; 0 if there was none. O(1).
     pub fn checkpointed(&self) -> u64
         ensures { result ≡ self.now.checkpointed }
     {
         self.checkpointed
     }
 
-    /// The number of commands accepted since the last checkpoint.
+    /// The number of commands accepted since the last checkpoint, or since the opening if there was none. O(1).
     pub fn since(&self) -> u64
         ensures { result ≡ self.now.since }
     {
@@ -54,7 +54,7 @@ impl Partition {
         self.next
     }
 
-    /// The number of rows. O(1).
+    /// The number of rows: those of the column without the doomed ones, and the pending insertions. O(1).
     pub fn rows(&self) -> u64
         ensures live { result ≡ length (live_rows self.now.store) }
         ensures plain { result ≡ length (state_of self.now).rows }

@@ -1,18 +1,20 @@
 -- What private clauses alone cite.
--- Candidates that a pass over codes found ahead of time.
+-- Candidates that a pass over codes found ahead of time: spots whose codes are from the first to the last one searched
+-- for. A spot is an index into a list's vectors, and `codes` has the 16-bit code of the key at each spot (Codes.antt).
 use Rattle.std.specs.Prelude.{◌≡◌, ℕ, ◌<◌, ◌≤◌, List, length, slice_index}
 use Rattle.crack_pending.specs.declared.ahead.Ahead.{Ahead}
 use Rattle.crack_pending.specs.Inside.{Lies}
 
--- the spot is a candidate, at the position `next` of the list or after it
+-- the spot is in the list of candidates, at the position `next` or after it
 pub record IsAmong (candidates : List ℕ) (next spot : ℕ) : Type 0 where
   pub place : ℕ
   pub from : next ≤ place
   pub within : place < length candidates
   pub is : slice_index candidates place ≡ spot
 
--- from the position `next` on, the candidates rise, lie from `from` up to `to`, and include each spot there whose
--- code is `first` to `last`
+-- `candidates` are spots that rise. At the position `next` and after it, all are from `from` up to but not including
+-- `to`, and each spot there whose code is from `first` to `last` is among them; others may be, such as those of rows
+-- removed since. `last` is below 65535, the code of a spot without a row
 pub record AreCandidates (codes : List ℕ) (first last from to : ℕ) (candidates : List ℕ) (next : ℕ) : Type 0 where
   pub order : first ≤ last
   pub low : last < 65535
@@ -22,12 +24,12 @@ pub record AreCandidates (codes : List ℕ) (first last from to : ℕ) (candidat
   pub inside : (k : ℕ) → next ≤ k → k < length candidates → (from ≤ slice_index candidates k) × (slice_index candidates k < to)
   pub rising : (j k : ℕ) → j < k → k < length candidates → slice_index candidates j < slice_index candidates k
 
--- the candidates that were found ahead of time are right: from `next` on, they rise, lie among the searched spots,
--- and include each of these whose code is searched for
+-- `AreCandidates` holds for these codes and the fields of `ahead`, which have the names used there
 abbrev pub IsAhead : List ℕ → Ahead → Type 0
 IsAhead codes ahead = AreCandidates codes ahead.first ahead.last ahead.from ahead.to ahead.candidates.items ahead.next
 
--- from `start` up to but not including `near`, no code is `first` to `last`
+-- no spot from `start` up to but not including `near` has a code from `first` to `last`; `near` isn't before `start`,
+-- and isn't after the end of the codes
 pub record IsNext (codes : List ℕ) (first last start near : ℕ) : Type 0 where
   pub after : start ≤ near
   pub within : near ≤ length codes

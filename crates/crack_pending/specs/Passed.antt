@@ -12,8 +12,10 @@ use Rattle.crack_pending.specs.Keeps.{place_at, HasRow, keys_of}
 use Rattle.crack_pending.specs.Pending.{rows_inside, rows_outside}
 use Rattle.crack_pending.specs.Spots.{kept}
 
--- the rows in the range before the spot `start`, `count` of them, were moved from the spots to the list `taken`,
--- after the handles `came`; the other rows are unchanged, and `unknowns` of them have unknown keys
+-- the effect of a pass that took `count` rows: those before the spot `start` whose keys are in the range. `before`
+-- says which spots had a row, and `after` which have one now. `taken` are the handles `came`, taken earlier, followed
+-- by those of the rows taken now; `gone` is what is remembered of all of these. The other rows stay in order, and
+-- `unknowns` of them have unknown keys. The codes of the spots are as `AreCoded` says for `after`
 pub record IsPassed (cells : List (Cell Row)) (range : Range) (handles : List Handle) (remembered : List Memory) (before after : List Bool) (codes : Coding) (came taken : List Handle) (gone : List Memory) (start count unknowns : ℕ) : Type 0 where
   pub within : start ≤ length handles
   pub missed : IsMissed range cells handles after 0 start

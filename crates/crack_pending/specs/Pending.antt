@@ -1,4 +1,5 @@
--- What contracts see of a list of pending rows.
+-- What contracts see of a list of pending rows. The list remembers its rows correctly in some cells if what it has
+-- beside each handle is the key and payload that the handle reads there, or nothing (`Remembers`).
 use Rattle.std.specs.Prelude.{◌≡◌, ◌≢◌, ℕ, ◌<◌, ◌≤◌, not, List, filter, length, Option, Some, None, slice_index, slice_index_or}
 use Rattle.crack_row.specs.Ranges.{Range, IsIn, is_in}
 use Rattle.crack_row.specs.declared.Row.{Row}
@@ -14,23 +15,25 @@ pub record Pending : Type 0 where
   pub room : ℕ
   pub covered : ℕ
 
--- with any cells, if the old list remembers its rows correctly, so does the new one
+-- in any cells in which the old list remembers its rows correctly, so does the new one
 abbrev pub StillRemembersRows : Pending → Pending → Type 0
 StillRemembersRows old new =
     (cells : List (Cell Row)) → Remembers cells old.handles old.remembered → Remembers cells new.handles new.remembered
 
--- as `StillRemembersRows`, if this memory agrees with the row of the handle that was added
+-- for a row added with this handle and memory: in any cells in which the memory agrees with the row that the handle
+-- reads (`Agrees`), and the old list remembers its rows correctly, so does the new one
 abbrev pub RemembersOneMore : Handle → Memory → Pending → Pending → Type 0
 RemembersOneMore handle memory old new =
     (cells : List (Cell Row)) → Agrees cells handle memory → Remembers cells old.handles old.remembered → Remembers cells new.handles new.remembered
 
--- as `StillRemembersRows`, but for new cells: this memory agrees with the row of this slot, and the other rows are
--- unchanged
+-- for a row remembered anew by this memory, whose handle in the old list names the cell with the number `slot`: if the
+-- old list remembers its rows correctly in `cells`, the new one does in `cells'`. There the memory must agree with the
+-- row (`Agrees`), and the handles of other cells must read the same keys and payloads as in `cells`
 abbrev pub RemembersAnew : ℕ → Memory → Pending → Pending → Type 0
 RemembersAnew slot memory old new =
     (cells cells' : List (Cell Row)) → Agrees cells' (slice_index_or old.handles (place_in old.handles slot) no_handle) memory → ((h : Handle) → h.slot ≢ slot → memory_at cells' h ≡ memory_at cells h) → Remembers cells old.handles old.remembered → Remembers cells' new.handles new.remembered
 
--- no key at the places from `from` up to `to` lies in the range
+-- no key at the places from `from` up to but not including `to` lies in the range
 abbrev pub NoneIn : Range → List ℕ → ℕ → ℕ → Type 0
 NoneIn range keys from to = (k : ℕ) → from ≤ k → k < to → ¬ IsIn range (slice_index keys k)
 

@@ -18,8 +18,8 @@ const BLOCK: usize = 32;
 /// The greatest number of candidates in the list.
 pub(crate) const MOST_AHEAD: usize = 1024;
 
-/// The candidates at the spots `from..to`: the spots whose codes are `first` to `last`. Those before `next` in the
-/// list were passed. The spot of a removed row stays in the list.
+/// The candidates at the spots `from..to`: the spots whose codes are from `first` to `last`. The candidates before the
+/// position `next` in the list were passed. If a candidate's row is removed, its spot stays in the list.
 #[derive(Drop)]
 pub(crate) struct Ahead {
     first: u16,
@@ -77,8 +77,9 @@ impl Ahead {
         self.candidates.shrink_to(0);
     }
 
-    /// The first spot at or after `start` whose code is `first` to `last`, or the spot where the search ended
-    /// without one. It ends early if no memory is found for candidates.
+    /// The next candidate at or after `start`: the first spot whose code is from `first` to `last`, or a spot before
+    /// it that had such a code until its row was removed. If there is none, the spot where the search ended: the end
+    /// of the codes, or an earlier spot if no memory is found for candidates.
     pub(crate) fn seek(&mut self, codes: &[u16], first: u16, last: u16, start: usize) -> usize
         requires order { first ≤ last }
         requires low { last < 65535 }
@@ -93,8 +94,8 @@ impl Ahead {
         self.near()
     }
 
-    /// Drops the candidates and starts again at `start`, if they are of other codes than `first` to `last` or
-    /// `start` lies outside the searched spots.
+    /// Makes this a list of candidates for the codes from `first` to `last`. Drops the candidates, and starts again at
+    /// `start`, if they are of other codes or `start` lies outside the searched spots. Otherwise nothing changes.
     fn turn_to(&mut self, first: u16, last: u16, start: usize)
         requires order { first ≤ last }
         requires low { last < 65535 }
@@ -115,7 +116,7 @@ impl Ahead {
         self.next = 0;
     }
 
-    /// Moves past the candidates before `start`: `near` returns none of them any more.
+    /// Moves past the candidates before `start`: `near` returns none of them afterwards.
     fn pass(&mut self, start: usize)
         requires from { self.old.from ≤ start }
         requires to { start ≤ self.old.to }
@@ -128,7 +129,8 @@ impl Ahead {
         self.next = first_behind(&self.candidates, self.next, start);
     }
 
-    /// Finds further candidates if all were passed, or none if no memory is found. O(spots that are searched).
+    /// If all candidates were passed, drops them, and searches the codes from where the search ended for further ones;
+    /// it finds none if there is no memory for them. If a candidate is left, does nothing. O(spots that are searched).
     fn look_on(&mut self, codes: &[u16])
         requires ahead { IsAhead codes.now self.old }
         ensures ahead { IsAhead codes.now self.new }
@@ -181,7 +183,8 @@ impl Ahead {
     }
 }
 
-/// The first position in the list, from `next` on, whose candidate isn't before `start`, or the list's end.
+/// The position in the list, from `next` on, of the first candidate at or after `start`, or the list's end if there is
+/// none.
 fn first_behind(candidates: &[usize], next: usize, start: usize) -> usize
     ensures after { next ≤ result }
     ensures passed { (k : ℕ) → next ≤ k → k < result → slice_index candidates.now k < start }
@@ -194,7 +197,7 @@ fn first_behind(candidates: &[usize], next: usize, start: usize) -> usize
     place
 }
 
-/// The number of candidates whose cells have a row. Reads the cells of all.
+/// The number of candidates whose cells have a row. Reads the cells of all candidates.
 #[inline(never)]
 fn live_cells(candidates: &[usize], tags: &TagList, arena: &Arena<Row>) -> usize {
     let mut live = 0;
@@ -207,7 +210,7 @@ fn live_cells(candidates: &[usize], tags: &TagList, arena: &Arena<Row>) -> usize
     live
 }
 
-/// Appends the spots in `from..to` whose codes are `first` to `last`. There must be room.
+/// Appends to `candidates` the spots in `from..to` whose codes are from `first` to `last`. There must be room.
 fn gather_between(
     candidates: &mut Vec<usize>,
     codes: &[u16],
@@ -233,8 +236,8 @@ fn gather_between(
     }
 }
 
-/// Fills the empty list with the spots from `from` on whose codes are `first` to `last`, at most `MOST_AHEAD`.
-/// Returns the spot up to which all were found.
+/// Fills the empty list with the spots from `from` on whose codes are from `first` to `last`, at most `MOST_AHEAD` of
+/// them. Returns the spot up to which it found all.
 pub(crate) fn gather(
     candidates: &mut Vec<usize>,
     codes: &[u16],

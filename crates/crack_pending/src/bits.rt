@@ -13,7 +13,7 @@ const WORD: usize = 64;
 /// The least number of words by which a set grows.
 const MORE_WORDS: usize = 32;
 
-/// A set of numbers below an end that `make_places` moves up.
+/// A set of numbers. Each number below an end, which `make_places` moves up, has a bit; only these can be added.
 #[derive(Drop)]
 pub(crate) struct BitSet {
     words: Vec<u64>,
@@ -37,8 +37,8 @@ impl BitSet {
         }
     }
 
-    /// Makes room for the bits of this many numbers, counted from 0. Amortised O(1) for each 64 new numbers.
-    /// Refused with `OutOfMemory` if no memory is found.
+    /// Makes room for the bits of the numbers below `numbers`. Amortised O(1) for each 64 new numbers. Refused with
+    /// `OutOfMemory` if no memory is found.
     pub(crate) fn make_places(&mut self, numbers: usize) -> Result<(), Refusal>
         ensures same { (number : ℕ) → Has self.new number ↔ Has self.old number }
         ensures covered { OnOk result (numbers ≤ 64 * length self.new) }
@@ -52,7 +52,7 @@ impl BitSet {
         lengthen_words(&mut self.words, words)
     }
 
-    /// Takes all numbers out of the set. O(1) for each 64 numbers that have a bit.
+    /// Removes all numbers from the set. O(1) for each 64 numbers that have a bit.
     pub(crate) fn clear(&mut self)
         ensures none { (number : ℕ) → ¬ Has self.new number }
         ensures long { length self.new ≡ length self.old }
@@ -60,7 +60,7 @@ impl BitSet {
         self.words.fill(0);
     }
 
-    /// Whether the number is in the set. O(1).
+    /// Whether the number is in the set; false if there is no bit for it. O(1).
     #[inline]
     pub(crate) fn has(&self, number: u32) -> bool
         ensures { IsTrue result ↔ Has self.now number }

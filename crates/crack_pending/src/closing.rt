@@ -5,8 +5,9 @@ ghost use Rattle.crack_pending.specs.Spots.{kept};
 
 use crack_tags::TagList;
 
-/// Closes up all holes, and keeps the order of the rows. `rows` is their number, and `stands` says which spots
-/// have one. The spots must be noted anew afterwards. O(spots), and O(1) if there are no holes.
+/// Closes up all holes in `tags` and in `stands`, which says which spots have a row. The rows keep their order. `rows`
+/// is the number of rows. The caller must note the rows' spots anew afterwards. O(spots), and O(1) if there are no
+/// holes.
 pub(crate) fn close_up(tags: &mut TagList, stands: &mut Vec<bool>, rows: usize)
     requires remembered { length tags.old.remembered ≡ length tags.old.handles }
     requires stands { vec_len stands.old ≡ length tags.old.handles }
@@ -23,8 +24,8 @@ pub(crate) fn close_up(tags: &mut TagList, stands: &mut Vec<bool>, rows: usize)
     close_up_stands(stands, rows);
 }
 
-/// Closes up the holes among handles, and in what is remembered: keeps those at the spots with a row, in order.
-/// `stands` says which spots have one.
+/// Closes up the holes in `tags`: of the handles, and of what is remembered, keeps those at the spots with a row, in
+/// order. `stands` says which spots have one.
 fn close_up_tags(tags: &mut TagList, stands: &[bool])
     requires stands { length stands.now ≡ length tags.old.handles }
     requires remembered { length tags.old.remembered ≡ length tags.old.handles }

@@ -1,5 +1,6 @@
 //! Passes over the codes of pending rows. A spot is an index into a list's vectors; `stands` says which spots have
-//! a row. The others are holes.
+//! a row. The others are holes. `tags` has the handles and keys of the rows, by spot. A key that isn't remembered is
+//! unknown, and is read from the arena. A function with a range and a window takes the window of that range.
 ghost use Rattle.std.specs.Prelude.{◌≡◌, ◌+◌, ◌-◌, ◌<◌, ◌≤◌, ◌↔◌, ℕ, length, slice_index, slice_index_or, MatchOption};
 ghost use Rattle.std.specs.Prelude.{IsTrue, IsFalse};
 ghost use Rattle.std.specs.Bool.{OnFalse};
@@ -32,7 +33,8 @@ pub(crate) struct Window {
 }
 
 impl Window {
-    /// The window for what a pass looks for, in these codes.
+    /// Makes the window of the range, by the scale of these codes. `wanted` has the first and last key of the range,
+    /// and whether some keys are unknown.
     pub(crate) fn of(wanted: Wanted, codes: &Codes, range: KeyRange) -> Window
         requires low { range.low ≡ wanted.low }
         requires last { range.high ≡ wanted.last + 1 }
@@ -48,7 +50,8 @@ impl Window {
         }
     }
 
-    /// Whether a row with this code may have its key in the range.
+    /// Whether a row with this code may have its key in the range: the code is from `first` to `last`, or it is that
+    /// of unknown keys and some keys are unknown. A hole's code gives false.
     fn may_hold(self, code: u16) -> bool
         requires order { self.first ≤ self.last }
         requires last { self.last < 65535 }
@@ -61,7 +64,8 @@ impl Window {
             || (self.some_unknown && code == self.beyond)
     }
 
-    /// Whether the code proves that a row's key is in the range.
+    /// Whether the code alone proves that its row's key is in the window's range: it is strictly between `first` and
+    /// `last`.
     fn is_inside(self, code: u16) -> bool
         ensures { IsTrue result ↔ ((self.first < code) × (code < self.last)) }
     {
@@ -69,7 +73,7 @@ impl Window {
     }
 }
 
-/// Whether a code of a block lies between `low` and `last`. Compares each code once, without a branch.
+/// Whether one of these 32 codes is from `low` to `last`. Compares each code once, without a branch.
 #[inline(always)]
 pub(crate) fn any_lies(codes: &[u16], low: u16, last: u16) -> bool
     requires block { length codes.now ≡ 32 }
@@ -84,7 +88,7 @@ pub(crate) fn any_lies(codes: &[u16], low: u16, last: u16) -> bool
     any != 0
 }
 
-/// Does what `any_lies` does, for a block of 128 codes.
+/// Does what `any_lies` does, for 128 codes.
 #[inline(always)]
 fn any_of_many_lies(codes: &[u16], low: u16, last: u16) -> bool
     requires block { length codes.now ≡ 128 }
@@ -99,7 +103,7 @@ fn any_of_many_lies(codes: &[u16], low: u16, last: u16) -> bool
     any != 0
 }
 
-/// Whether a row of a block may have its key in the range, judged by the codes alone.
+/// Whether one of the rows with these 32 codes may have its key in the window's range. Judges by the codes alone.
 fn may_hit(codes: &[u16], window: Window) -> bool
     requires block { length codes.now ≡ 32 }
     requires order { window.first ≤ window.last }
@@ -113,7 +117,7 @@ fn may_hit(codes: &[u16], window: Window) -> bool
     window.some_unknown && any_lies(codes, window.beyond, window.beyond)
 }
 
-/// Does what `may_hit` does, for a block of 128 codes.
+/// Does what `may_hit` does, for 128 codes.
 #[inline(always)]
 fn many_may_hit(codes: &[u16], window: Window) -> bool
     requires block { length codes.now ≡ 128 }
@@ -128,8 +132,8 @@ fn many_may_hit(codes: &[u16], window: Window) -> bool
     window.some_unknown && any_of_many_lies(codes, window.beyond, window.beyond)
 }
 
-/// Whether the spot has a row whose key is in the range. Reads the key only if the code is that of an end of the
-/// range, or that of unknown keys.
+/// Whether the spot, which must have a code, has a row whose key is in the range. Reads the key only if the code is
+/// that of an end of the range, or that of unknown keys. O(1).
 #[inline(always)]
 pub(crate) fn is_hit(
     tags: &TagList,
@@ -163,8 +167,8 @@ pub(crate) fn is_hit(
     range.contains(tags.memory(spot).key_of(tags.handle(spot), arena))
 }
 
-/// The first spot in `from..to` whose row has its key in the range, if there is one. Looks at the code of each
-/// spot.
+/// The first spot in `from..to` whose row has its key in the range, if there is one. All these spots must have codes.
+/// Looks at the code of each spot.
 fn hit_between(
     tags: &TagList,
     stands: &[bool],
@@ -194,8 +198,8 @@ fn hit_between(
     None
 }
 
-/// The first spot of the block at `from` whose row has its key in the range, if there is one. Looks at each spot
-/// only if the codes don't rule out the whole block.
+/// The first of the 32 spots from `from` on whose row has its key in the range, if there is one. All these spots must
+/// have codes. Looks at single spots only if the codes don't rule out all of them.
 fn hit_in_block(
     tags: &TagList,
     stands: &[bool],
@@ -231,7 +235,9 @@ fn hit_in_block(
     )
 }
 
-/// The first spot in `from..to` whose row has its key in the range, if there is one. Passes over blocks of codes.
+/// The first spot in `from..to` whose row has its key in the range, if there is one. All these spots must have codes.
+/// Looks at 32 codes at a time. Looks at single spots only where the 32 codes don't rule them out, and at the end,
+/// where fewer than 32 are left.
 fn hit_in_blocks(
     tags: &TagList,
     stands: &[bool],
@@ -265,7 +271,8 @@ fn hit_in_blocks(
 }
 
 /// The first spot at or after `from` that has a code and whose row has its key in the range, if there is one. The
-/// range isn't empty.
+/// range isn't empty. Looks at 128 codes at a time, and at smaller blocks only where these don't rule out all rows.
+/// O(spots passed).
 pub(crate) fn hit_in_codes(
     tags: &TagList,
     stands: &[bool],

@@ -1,4 +1,5 @@
-//! A 16-bit code for each key. A pass over codes reads a quarter of what a pass over keys would read.
+//! A 16-bit code for each key. A pass over codes reads a quarter of what a pass over keys would read. A spot is an
+//! index into a list's vectors; `tags` has the keys of the rows, by spot, and `stands` says which spots have a row.
 ghost use Rattle.std.specs.Prelude.{◌≡◌, ◌+◌, ◌<◌, ◌≤◌, [], length, take, vec_capacity, slice_set};
 ghost use Rattle.crack_pending.specs.Ahead.{IsNext};
 ghost use Rattle.crack_pending.specs.Codes.{AreCoded, key_code};
@@ -33,7 +34,7 @@ struct Scale {
 }
 
 impl Scale {
-    /// The code of a key, by this rule.
+    /// The code of a key, by this rule: at most `GREATEST_CODE`.
     fn code(self, key: StoredKey) -> u16
         requires { self.shift < 64 }
         ensures { result ≡ key_code self.base self.shift key }
@@ -42,8 +43,8 @@ impl Scale {
     }
 }
 
-/// The codes of the first spots, and the candidates that a pass found ahead. A higher key never has a lower code,
-/// whatever the scale is. The scale is chosen by the keys that exist when the first row is coded.
+/// The codes of the first spots, and the candidates that a pass found ahead of time. A higher key never has a lower
+/// code, whatever the scale is. The scale is chosen by the keys that exist when the first row is coded.
 #[derive(Drop)]
 pub(crate) struct Codes {
     codes: Vec<u16>,
@@ -64,7 +65,7 @@ impl Model for Codes {
 }
 
 impl Codes {
-    /// Makes an empty list. Takes no memory.
+    /// Makes a list without codes. Takes no memory.
     pub(crate) fn new(alloc: Global) -> Codes
         ensures { result.codes ≡ [] }
     {
@@ -89,14 +90,14 @@ impl Codes {
         &self.codes
     }
 
-    /// The code of a key.
+    /// The code of a key, by the scale of this list.
     pub(crate) fn code(&self, key: StoredKey) -> u16
         ensures { result ≡ key_code self.now.base self.now.shift key }
     {
         self.scale.code(key)
     }
 
-    /// Drops all codes, and keeps their memory.
+    /// Drops all codes and candidates, and keeps their memory.
     pub(crate) fn clear(&mut self)
         ensures { self.new.codes ≡ [] }
     {
@@ -104,7 +105,7 @@ impl Codes {
         self.ahead.forget();
     }
 
-    /// Drops all codes, and frees their memory.
+    /// Drops all codes and candidates, and frees their memory.
     pub(crate) fn give_back(&mut self)
         ensures { self.new.codes ≡ [] }
     {
@@ -113,7 +114,7 @@ impl Codes {
         self.ahead.give_back();
     }
 
-    /// Replaces the code at the spot of a removed row, if it has one, by that of a hole.
+    /// Notes that the row at the spot was removed: the spot's code, if it has one, becomes `HOLE`. O(1).
     pub(crate) fn leave_hole(&mut self, spot: usize)
         ensures { self.new ≡ record self.old { codes = slice_set self.old.codes spot 65535 } }
     {
@@ -122,7 +123,8 @@ impl Codes {
         }
     }
 
-    /// Replaces the code at the spot, if it has one, because its row's key has changed to this one.
+    /// Notes that the key remembered at the spot is now `key`: the spot's code, if it has one, becomes the code of
+    /// `key`, and all candidates are dropped. O(1).
     pub(crate) fn recode(&mut self, spot: usize, key: StoredKey)
         ensures { self.new ≡ record self.old {
           codes = slice_set self.old.codes spot (key_code self.old.base
@@ -135,9 +137,10 @@ impl Codes {
         }
     }
 
-    /// The first spot at or after `start` whose code is `first` to `last`, or the spot where the search ended
-    /// without one: the end of the codes, or an earlier one if no memory is found to look ahead. Searches from
-    /// rising spots take one pass over the codes in total.
+    /// The next candidate at or after `start`: the first spot whose code is from `first` to `last`, or a spot before
+    /// it that had such a code until its row was removed. If there is none, the spot where the search ended: the end
+    /// of the codes, or an earlier spot if no memory is found to look ahead. Searches from rising spots take one pass
+    /// over the codes in total.
     pub(crate) fn seek(&mut self, first: u16, last: u16, start: usize) -> usize
         requires order { first ≤ last }
         requires low { last < 65535 }
@@ -148,15 +151,15 @@ impl Codes {
         self.ahead.seek(&self.codes, first, last, start)
     }
 
-    /// Reads the cells of the rows that were found ahead, so that they are in the cache. Contracts see no change.
+    /// Reads the cells of the candidates, so that they are in the cache. Contracts see no change.
     pub(crate) fn warm(&mut self, tags: &TagList, arena: &Arena<Row>)
         ensures { self.new ≡ self.old }
     {
         self.ahead.warm(tags, arena);
     }
 
-    /// Codes the rows at all spots that have no code, if they are more than `MOST_UNCODED`; otherwise does
-    /// nothing. Codes none if no memory is found. Amortised O(1) for each spot.
+    /// Makes a code for each spot that has none, if there are more than `MOST_UNCODED` such spots; otherwise does
+    /// nothing. Makes none if no memory is found. Amortised O(1) for each spot.
     #[inline]
     pub(crate) fn catch_up_if_many(&mut self, tags: &TagList, stands: &[bool])
         requires beside { length stands.now ≡ length tags.now.remembered }
@@ -169,7 +172,7 @@ impl Codes {
         self.catch_up(tags, stands);
     }
 
-    /// Codes the rows at all spots that have no code. O(1) for each spot. Codes none if no memory is found.
+    /// Makes a code for each spot that has none. O(1) for each of these. Makes none if no memory is found.
     #[inline(never)]
     fn catch_up(&mut self, tags: &TagList, stands: &[bool])
         requires beside { length stands.now ≡ length tags.now.remembered }
@@ -186,7 +189,8 @@ impl Codes {
     }
 }
 
-/// Codes the rows at all spots that have no code. There must be room.
+/// Appends a code, by this scale, for each spot that has none: that of the key in `tags`, or `HOLE` if there is no
+/// row. There must be room.
 fn append_codes(codes: &mut Vec<u16>, scale: Scale, tags: &TagList, stands: &[bool])
     requires beside { length stands.now ≡ length tags.now.remembered }
     requires room { length tags.now.remembered ≤ vec_capacity codes.old }
@@ -213,7 +217,8 @@ fn append_codes(codes: &mut Vec<u16>, scale: Scale, tags: &TagList, stands: &[bo
     }
 }
 
-/// A scale by which the greatest of these keys gets one of the greatest codes.
+/// The scale for the keys in `tags`: subtracts the least key, and drops as many low bits as the difference between the
+/// greatest known key and the least has beyond 16. O(spots).
 fn scale_of(tags: &TagList) -> Scale
     ensures { result.shift < 64 }
 {
@@ -225,7 +230,8 @@ fn scale_of(tags: &TagList) -> Scale
     }
 }
 
-/// The least of these keys, and the greatest of those that are known.
+/// The least key in `tags`, and the greatest known one: `UNKNOWN_KEY` and 0 if none is known. Also reads the keys that
+/// are kept at holes. O(spots).
 fn least_and_greatest(tags: &TagList) -> (StoredKey, StoredKey) {
     let mut least = UNKNOWN_KEY;
     let mut greatest = 0;

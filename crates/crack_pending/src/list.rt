@@ -84,7 +84,7 @@ impl<Kind> Model for PendingList<Kind> {
 }
 
 impl<Kind> PendingList<Kind> {
-    /// Makes an empty list. Takes no memory.
+    /// Makes an empty list. Takes no memory. O(1).
     pub fn new(alloc: Global) -> Self
         ensures after { result ≡ record { handles = []; remembered = []; room = 0; covered = 0 } }
         ensures remembered { (cells : List (Cell Row)) → Remembers cells result.handles result.remembered }
@@ -113,8 +113,8 @@ impl<Kind> PendingList<Kind> {
         let _ = &self.tags;
     }
 
-    /// Appends the handle, whose row is unknown. There must be room for it and its cell, and the list must have no
-    /// handle of the cell. Takes no memory. O(1).
+    /// Appends the handle; nothing is remembered of its row. There must be room for it and its cell, and the list must
+    /// have no handle of the cell. Takes no memory. O(1).
     pub fn push(&mut self, handle: Handle<Row>)
         requires room { 0 < self.old.room }
         requires covered { handle.slot < self.old.covered }
@@ -150,8 +150,9 @@ impl<Kind> PendingList<Kind> {
         self.unknowns += (remembered.key() == UNKNOWN_KEY) as usize;
     }
 
-    /// The handle at the place, counted from the first arrival. O(1) if there are no holes, otherwise a pass over
-    /// the spots from the hint on, or from the first one if the place is before the hint.
+    /// The handle at the place, counted from 0 in order of arrival. The place must exist. O(1) if there are no holes,
+    /// otherwise a pass over the spots: from the hint on, which `seek` sets, or from the first spot if the place is
+    /// before the hint.
     pub fn at(&self, place: usize) -> Handle<Row>
         requires { place < length self.now.handles }
         ensures { StandsAt self.now.handles place result }
@@ -165,8 +166,8 @@ impl<Kind> PendingList<Kind> {
         ))
     }
 
-    /// Makes the next look-up of a place start from this place (the hint). So taking k of i rows at rising places
-    /// takes O(i + k) in total. Contracts see no change.
+    /// Makes the next look-up of a place start from this place, the hint, which must exist. So taking k of i rows at
+    /// rising places takes O(i + k) in total. Costs as much as `at`. Contracts see no change.
     pub fn seek(&mut self, place: usize)
         requires { place < length self.old.handles }
         ensures { self.new ≡ self.old }
@@ -181,8 +182,8 @@ impl<Kind> PendingList<Kind> {
         self.hint_place = place;
     }
 
-    /// Replaces what is remembered of the row whose handle in the list names the same cell as this handle. There
-    /// must be one. O(1), and O(1) for each spot that isn't noted yet.
+    /// Replaces what is remembered of a row by `remembered`. The row is the one whose handle in the list names the
+    /// same cell as this handle; there must be one. O(1), and O(1) for each spot that isn't noted yet.
     pub fn remember(&mut self, handle: Handle<Row>, remembered: Remembered)
         requires { 0 < times handle.slot (slots self.old.handles) }
         ensures after { self.new ≡ record self.old {

@@ -6,8 +6,8 @@ ghost use Rattle.crack_pending.specs.Inside.{IsNowhere, IsNotBehind, IsSpotWith,
 
 use crack_tags::TagList;
 
-/// Notes the spot of each row by its cell's number, from the first spot that isn't noted. O(1) for each spot from
-/// there on.
+/// Notes in `spots`, by the number of its cell, the spot of each row. The first `noted` spots are noted already. O(1)
+/// for each of the others.
 fn note_spots(spots: &mut Vec<u32>, tags: &TagList, stands: &[bool], noted: usize)
     requires beside { length stands.now ≡ length tags.now.handles }
     requires few { length tags.now.handles ≤ 2 ^ 32 }
@@ -25,8 +25,8 @@ fn note_spots(spots: &mut Vec<u32>, tags: &TagList, stands: &[bool], noted: usiz
     }
 }
 
-/// The noted spot of the row whose handle names the cell with this number. `None` if no spot is noted for the
-/// cell, or that spot doesn't have its row. O(1).
+/// The spot noted for the cell with this number, if the row there has a handle that names the cell. `None` otherwise,
+/// or if no spot is noted for the cell. O(1).
 fn spot_with(tags: &TagList, stands: &[bool], spots: &[u32], slot: u32) -> Option<usize>
     requires beside { length stands.now ≡ length tags.now.handles }
     ensures { MatchOption result (IsUnnoted tags.now.handles stands.now spots.now slot) (λ spot. IsSpotWith
@@ -43,8 +43,9 @@ fn spot_with(tags: &TagList, stands: &[bool], spots: &[u32], slot: u32) -> Optio
     }
 }
 
-/// The spot of the row whose handle names the cell with this number, or `None` if there is none. First notes the
-/// spots that aren't noted, so n look-ups after m pushes take O(n + m) in total.
+/// The spot of the row whose handle names the cell with this number, or `None` if there is none. The first `noted`
+/// spots are noted. First notes the others, and sets `noted` to the number of spots, so n look-ups after m pushes take
+/// O(n + m) in total.
 pub(crate) fn spot_noted(
     spots: &mut Vec<u32>,
     noted: &mut usize,
@@ -84,8 +85,8 @@ fn spot_behind(tags: &TagList, stands: &[bool], from: usize, slot: u32) -> Optio
     None
 }
 
-/// The spot of the row whose handle names the cell with this number, or `None` if there is none. The first `noted`
-/// spots are noted, and the others are searched: O(1) for each of these.
+/// The spot of the row whose handle names the cell with this number, or `None` if there is none. O(1) if the spot is
+/// among the first `noted` ones, which are noted; otherwise searches the others, O(1) for each.
 pub(crate) fn spot_sought(
     tags: &TagList,
     stands: &[bool],

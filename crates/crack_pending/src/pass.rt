@@ -1,5 +1,6 @@
 //! Passes over the keys of pending rows. A spot is an index into a list's vectors; `stands` says which spots have
-//! a row. The others are holes.
+//! a row. The others are holes. `tags` has the handles and keys of the rows, by spot. A key that isn't remembered is
+//! unknown, and is read from the arena. The block at `from` is the 16 spots from there on.
 ghost use Rattle.std.specs.Prelude.{◌≡◌, ◌≢◌, ◌+◌, ◌^◌, ◌<◌, ◌≤◌, ℕ, length, slice_index_or, MatchOption, IsTrue};
 ghost use Rattle.std.specs.Prelude.{IsFalse};
 ghost use Rattle.std.specs.Bool.{OnFalse};
@@ -26,7 +27,8 @@ pub(crate) struct Wanted {
     pub(crate) some_unknown: bool,
 }
 
-/// Whether a key of the block at `from` lies between `low` and `last`. Compares each key once, without a branch.
+/// Whether one of the keys remembered in the block at `from` is from `low` to `last`. Compares each key once, without
+/// a branch.
 fn any_lies(tags: &TagList, from: usize, low: StoredKey, last: StoredKey) -> bool
     requires block { from + 16 ≤ length tags.now.handles }
     requires few { length tags.now.handles ≤ 2 ^ 32 }
@@ -56,7 +58,7 @@ fn any_unknown(tags: &TagList, from: usize) -> bool
     any != 0
 }
 
-/// Whether a row of the block at `from` may have its key in the range, judged by the remembered keys alone.
+/// Whether a row of the block at `from` may have a key that is wanted. Judges by the remembered keys alone.
 fn may_hit(tags: &TagList, from: usize, wanted: Wanted) -> bool
     requires block { from + 16 ≤ length tags.now.handles }
     requires few { length tags.now.handles ≤ 2 ^ 32 }
@@ -97,8 +99,8 @@ fn hit_between(
     None
 }
 
-/// The first spot of the block at `from` whose row has its key in the range, if there is one. Looks at each spot
-/// only if the remembered keys don't rule out the whole block.
+/// The first spot of the block at `from` whose row has its key in the range, if there is one. `wanted` has the range's
+/// first and last key. Looks at each spot only if the remembered keys don't rule out the whole block.
 fn hit_in_block(
     tags: &TagList,
     stands: &[bool],
@@ -126,8 +128,9 @@ fn hit_in_block(
     hit_between(tags, stands, from, from + BLOCK, range, arena)
 }
 
-/// The first spot at or after `from` whose row has its key in the range, if there is one. The range isn't empty.
-/// Passes over blocks of keys.
+/// The first spot at or after `from` whose row has its key in the range, or `None` if there is none. The range isn't
+/// empty, and `wanted` has its first and last key. Compares the remembered keys block by block, and looks at single
+/// spots only in a block that may have such a row, and in the last one if it isn't whole. O(spots passed).
 fn hit_in_blocks(
     tags: &TagList,
     stands: &[bool],
@@ -159,8 +162,9 @@ fn hit_in_blocks(
     hit_between(tags, stands, spot, tags.len(), range, arena)
 }
 
-/// The first spot at or after `from` whose row has its key in the range, or `None` if there is none. Reads codes
-/// at the spots that have one, and keys at the others. Tests keys for being unknown only if `some_unknown`.
+/// The first spot at or after `from` whose row has its key in the range, or `None` if there is none. Reads codes at
+/// the spots that have one, and keys at the others. If `some_unknown` is false, all keys must be known, and none is
+/// tested for being unknown. O(spots passed).
 pub(crate) fn first_hit(
     tags: &TagList,
     stands: &[bool],
@@ -200,8 +204,9 @@ pub(crate) fn first_hit(
     }
 }
 
-/// The first spot at or after `from` whose row has its key in the range, or `None` if there is none. Unlike
-/// `first_hit`, looks ahead in the codes if all keys are known, so that searches one after another take one pass.
+/// The first spot at or after `from` whose row has its key in the range, or `None` if there is none. If `some_unknown`
+/// is true, does what `first_hit` does. If it is false, all keys must be known, and this looks ahead in the codes, so
+/// that searches from rising spots take one pass in total.
 pub(crate) fn next_hit(
     tags: &TagList,
     stands: &[bool],

@@ -48,8 +48,8 @@ impl<Kind> PendingList<Kind> {
         handle
     }
 
-    /// Removes the handle of the cell that this handle names, which must be in the list, wherever it is. Takes no
-    /// memory, and keeps the room. Amortised O(1), however many rows there are.
+    /// Removes the handle that names the same cell as `handle`; it must be in the list, at any place. Takes no memory,
+    /// and keeps the room. Amortised O(1), however many rows there are.
     pub fn strike(&mut self, handle: Handle<Row>)
         requires { 0 < times handle.slot (slots self.old.handles) }
         ensures handles { self.new.handles ≡ remove self.old.handles (place_in self.old.handles handle.slot) }
@@ -77,9 +77,10 @@ impl<Kind> PendingList<Kind> {
         self.close_up_if_sparse();
     }
 
-    /// Removes all rows in a range, in order of arrival. Appends their handles to `taken`, and what is remembered
-    /// of them to `known`; both must have room. Takes memory only for codes and candidates, and keeps the list's
-    /// room. One pass over the codes or keys, and O(1) for each removed row: no row's place is counted.
+    /// Removes all rows whose keys are in a range, in order of arrival. Appends their handles to `taken`, and what is
+    /// remembered of them to `known`; both must have room. Can't fail: takes memory only for codes and candidates, and
+    /// does without them if there is none. Keeps the list's room. One pass over the codes or keys, and O(1) for each
+    /// removed row: no row's place is counted.
     pub fn take_in(
         &mut self,
         range: KeyRange,
@@ -166,7 +167,8 @@ impl<Kind> PendingList<Kind> {
     }
 }
 
-/// Removes from the set the cells of the handles at the places from `from` on. O(1) for each.
+/// Removes from the set the cells of the handles at the places from `from` on; all of them must be in the set. O(1)
+/// for each.
 fn strike_from(members: &mut BitSet, handles: &[Handle<Row>], from: usize)
     requires { (slot : ℕ) → 0 < times slot (slots (drop from handles.now)) → Has members.old slot }
     ensures struck { (slot : ℕ) → Has members.new slot ↔ (Has members.old slot ×
@@ -178,7 +180,7 @@ fn strike_from(members: &mut BitSet, handles: &[Handle<Row>], from: usize)
     }
 }
 
-/// Removes from the set the cells of all handles. O(1) for each.
+/// Removes from the set the cells of all handles in `tags`; all of them must be in the set. O(1) for each.
 fn strike_all(members: &mut BitSet, tags: &TagList)
     requires { (slot : ℕ) → 0 < times slot (slots tags.now.handles) → Has members.old slot }
     ensures struck { (slot : ℕ) → Has members.new slot ↔ (Has members.old slot ×

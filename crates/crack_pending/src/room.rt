@@ -30,8 +30,8 @@ impl<Kind> PendingList<Kind> {
             .saturating_sub(self.tags.len())
     }
 
-    /// Makes room for this many pushes. Amortised O(1) for each push. Refused with `OutOfMemory` if no memory is
-    /// found.
+    /// Makes room for `additional` more pushes; with these the list must have at most 2^32 rows. Amortised O(1) for
+    /// each push. Refused with `OutOfMemory` if no memory is found.
     #[inline(always)]
     pub fn reserve(&mut self, additional: usize) -> Result<(), Refusal>
         requires { length self.old.handles + additional ≤ 2 ^ 32 }
@@ -48,8 +48,8 @@ impl<Kind> PendingList<Kind> {
         self.make_room(additional)
     }
 
-    /// Closes up all holes, and then makes room for half as many rows as there are, and at least for `additional`
-    /// and `FIRST_SPOTS`. So n pushes take O(n), however many rows are removed between them. Refused with
+    /// Closes up all holes. Then makes room for the greatest of these numbers of pushes: `additional`, half the number
+    /// of rows, and `FIRST_SPOTS`. So n pushes take O(n), however many rows are removed between them. Refused with
     /// `OutOfMemory` if no memory is found.
     #[inline(never)]
     fn make_room(&mut self, additional: usize) -> Result<(), Refusal>
@@ -69,9 +69,9 @@ impl<Kind> PendingList<Kind> {
         grow(&mut self.tags, &mut self.stands, wanted)
     }
 
-    /// Closes up all holes, and frees memory that holds no row, except room for half as many rows as there are, and
-    /// at least for 8,192 and for `room` pushes. O(1) if there are no holes, otherwise O(len). Can't fail: memory
-    /// that the allocator doesn't take back stays as room.
+    /// Closes up all holes, and frees memory that holds no row. Keeps room for the greatest of these numbers of
+    /// pushes: `room`, for which there must be room already, half the number of rows, and 8,192. O(1) if there are no
+    /// holes, otherwise O(len). Can't fail: memory that the allocator doesn't take back stays as room.
     #[inline(never)]
     pub fn shrink(&mut self, room: usize)
         requires { room ≤ self.old.room }
@@ -104,8 +104,8 @@ impl<Kind> PendingList<Kind> {
         }
     }
 
-    /// Makes room for handles of this many cells, counted from the first. Amortised O(1) for each new cell. Refused
-    /// with `OutOfMemory` if no memory is found.
+    /// Makes room for handles of the first `cells` cells. Amortised O(1) for each new cell. Refused with `OutOfMemory`
+    /// if no memory is found; then the list is unchanged.
     #[inline(always)]
     pub fn make_places(&mut self, cells: usize) -> Result<(), Refusal>
         ensures same { self.new ≡ record self.old { covered = self.new.covered } }
@@ -138,7 +138,7 @@ impl<Kind> PendingList<Kind> {
         self.hint_spot = 0;
     }
 
-    /// Closes up all holes if there are at least as many as rows.
+    /// Closes up all holes if there are at least as many holes as rows. Amortised O(1) for each removed row.
     pub(crate) fn close_up_if_sparse(&mut self)
         ensures same { self.new ≡ record self.old { room = self.new.room } }
         ensures kept { self.old.room ≤ self.new.room }
@@ -150,8 +150,8 @@ impl<Kind> PendingList<Kind> {
     }
 }
 
-/// Makes room for this many more spots. Refused with `OutOfMemory` if no memory is found; some vectors may then
-/// have room.
+/// Makes room for `additional` more spots. Refused with `OutOfMemory` if no memory is found; one of the two lists may
+/// then have got room.
 fn grow(tags: &mut TagList, stands: &mut Vec<bool>, additional: usize) -> Result<(), Refusal>
     ensures handles { tags.new.handles ≡ tags.old.handles }
     ensures remembered { tags.new.remembered ≡ tags.old.remembered }
@@ -167,8 +167,9 @@ fn grow(tags: &mut TagList, stands: &mut Vec<bool>, additional: usize) -> Result
     Ok(())
 }
 
-/// Appends zeros until `spots` has at least `cells` numbers, and up to `MORE_PLACES` further ones for which there is
-/// memory. Before that makes room for a bit for each number.
+/// Appends zeros until `spots` has at least `cells` numbers, and up to `MORE_PLACES` more for which there is memory.
+/// Before that, makes room in `members` for a bit for each number. Refused with `OutOfMemory` if no memory is found;
+/// then no zero is appended.
 #[inline(never)]
 fn lengthen(spots: &mut Vec<u32>, members: &mut BitSet, cells: usize) -> Result<(), Refusal>
     requires more { vec_len spots.old < cells }

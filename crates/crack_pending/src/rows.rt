@@ -1,5 +1,5 @@
-//! Counts of rows at spots. A spot is an index into the lists, where there is a row or, after its removal, a hole.
-//! The place of a row is the number of rows before it.
+//! Counts of rows at spots. A spot is an index into the lists, where there is a row or, after its removal, a hole;
+//! `stands` says which spots have a row. The place of a row is the number of rows before it.
 ghost use Rattle.std.specs.Prelude.{◌≡◌, ◌+◌, ◌<◌, ◌≤◌, ◌∷◌, [], length, false, slice_set, slice_index_or};
 ghost use Rattle.crack_arena.specs.Arena.{times};
 ghost use Rattle.crack_arena.specs.Rows.{unknown};
@@ -12,7 +12,7 @@ use crack_tags::TagList;
 /// The number of spots counted at a time, in 8 bits.
 const BLOCK: usize = 64;
 
-/// The number of rows at fewer than 256 spots.
+/// The number of rows at the spots of `stands`, which are fewer than 256.
 fn rows_in_block(stands: &[bool]) -> u8
     requires { length stands.now < 256 }
     ensures { result ≡ place_at stands.now (length stands.now) }
@@ -39,8 +39,8 @@ pub(crate) fn rows_between(stands: &[bool], from: usize, to: usize) -> usize
     rows + rows_in_block(&stands[spot..to]) as usize
 }
 
-/// A spot less than a block before the row at the place, and the number of rows before it. The search starts at the
-/// spot `from`, after `before` rows.
+/// A spot fewer than 64 spots before the row at the place, and the number of rows before that spot. The search starts
+/// at the spot `from`, which has `before` rows before it.
 fn skip_blocks(stands: &[bool], before: usize, from: usize, place: usize) -> (usize, usize)
     requires before { before ≡ place_at stands.now from }
     requires order { before ≤ place }
@@ -61,7 +61,7 @@ fn skip_blocks(stands: &[bool], before: usize, from: usize, place: usize) -> (us
     (spot, rows)
 }
 
-/// The spot of the row at the place. The search starts at the spot `from`, after `before` rows.
+/// The spot of the row at the place. The search starts at the spot `from`, which has `before` rows before it.
 fn spot_from(stands: &[bool], before: usize, from: usize, place: usize) -> usize
     requires before { before ≡ place_at stands.now from }
     requires order { before ≤ place }
@@ -108,8 +108,9 @@ pub(crate) fn spot_of(
     }
 }
 
-/// A spot with `place` rows before it: the spot `from`, which has `before` rows before it, or the one after it, if
-/// that fits, otherwise the spot of the row at the place.
+/// A spot with `place` rows before it, in a list of `rows` rows. The spot `from` has `before` rows before it. O(1) if
+/// `from` or the spot after it has `place` rows before it: the result is then that spot. Otherwise it is the spot of
+/// the row at the place, as `spot_of` finds it.
 pub(crate) fn spot_before(
     stands: &[bool],
     rows: usize,
@@ -147,7 +148,7 @@ pub(crate) fn place_of_spot(stands: &[bool], rows: usize, spot: usize) -> usize
     }
 }
 
-/// The number of rows before the spot `hint_spot`, after the row at `spot` is removed. Until then it is
+/// The number of rows before the spot `hint_spot` once the row at `spot` is removed. With that row, it is
 /// `hint_place`.
 pub(crate) fn hint_without(
     stands: &[bool],
@@ -166,8 +167,8 @@ pub(crate) fn hint_without(
     }
 }
 
-/// The number of unknown rows, after the row at the spot is removed. Until then it is `unknowns`. If that is 0, no
-/// key is read.
+/// The number of rows with unknown keys once the row at the spot is removed. With that row, it is `unknowns`. If
+/// `unknowns` is 0, no key is read.
 pub(crate) fn unknowns_without(tags: &TagList, unknowns: usize, spot: usize) -> usize
     requires within { spot < length tags.now.handles }
     requires counted { (slice_index_or tags.now.remembered spot nothing).key ≡ unknown → 0 < unknowns }

@@ -23,8 +23,8 @@ impl<Kind> PendingList<Kind> {
     }
 
     /// The first place at or after `from` whose row has its key in the range, or `None` if there is none. O(1) for
-    /// each place that it passes, without a branch for each key. Looks at a handle only if a key may lie in the
-    /// range, or isn't remembered. A command that takes rows continues where it took the last one, and so passes
+    /// each place that it passes, without a branch for each key. Looks at a handle only if a key may lie in the range,
+    /// or isn't remembered. A command that takes rows continues the search where it took the last one, and so passes
     /// over the list once.
     pub fn next_in(&self, range: KeyRange, from: usize, arena: &Arena<Row>) -> Option<usize>
         requires { Remembers arena.now.cells self.now.handles self.now.remembered }
@@ -55,8 +55,8 @@ impl<Kind> PendingList<Kind> {
         }
     }
 
-    /// Like `next_in`, but the next look-up of a place starts from the place that it finds: finding a row and then
-    /// taking it is one pass.
+    /// Does what `next_in` does, and also makes the next look-up of a place start from the place that it finds:
+    /// finding a row and then taking it is one pass.
     pub fn seek_in(&mut self, range: KeyRange, from: usize, arena: &Arena<Row>) -> Option<usize>
         requires { Remembers arena.now.cells self.old.handles self.old.remembered }
         ensures finds { Finds range (keys_at arena.now.cells self.old.handles) from result }
@@ -103,8 +103,8 @@ impl<Kind> PendingList<Kind> {
         self.codes.catch_up_if_many(&self.tags, &self.stands);
     }
 
-    /// The first place of the handle, or `None` if it isn't in the list. O(1) if there are no holes and the spots
-    /// are noted, otherwise O(len).
+    /// The place of the handle, or `None` if it isn't in the list. O(1) if there are no holes and the spots are noted,
+    /// otherwise O(len).
     pub fn place_of(&self, handle: Handle<Row>) -> Option<usize>
         ensures { MatchOption result (IsAbsent self.now.handles handle) (IsFirstAt self.now.handles handle) }
     {

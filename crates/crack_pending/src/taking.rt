@@ -1,4 +1,5 @@
-//! Removal of all rows in a range.
+//! Removal of all rows in a range. `tags`, `stands` and `codes` are a list's: the handles of the rows with what is
+//! remembered of them, which spots have a row, and the codes of the first spots.
 ghost use Rattle.std.specs.Prelude.{◌≡◌, ◌+◌, ◌≤◌, ◌^◌, ◌++◌, ℕ, length, vec_len, vec_capacity};
 ghost use Rattle.crack_arena.specs.Arena.{times};
 ghost use Rattle.crack_arena.specs.Rows.{unknown};
@@ -29,9 +30,10 @@ pub(crate) struct Left {
     pub(crate) unknowns: usize,
 }
 
-/// Leaves a hole at the spot of each row in a range, and appends the handles to `taken`, and what is remembered of
-/// their rows to `known`, in order; both must have room. `unknowns` is the number of rows whose keys are unknown.
-/// One pass: no row's place is looked up.
+/// Removes each row whose key is in the range: leaves a hole at its spot. Appends the handles of these rows to
+/// `taken`, and what is remembered of them to `known`, in order; both must have room. `unknowns` is the number of all
+/// rows whose keys are unknown. Returns how many rows were taken, and how many of the remaining rows have unknown
+/// keys. One pass: no row's place is looked up.
 pub(crate) fn take_hits(
     tags: &TagList,
     stands: &mut Vec<bool>,
@@ -94,9 +96,10 @@ pub(crate) fn take_hits(
     left
 }
 
-/// Takes the rows in a range at the spots that have a code, as `take_hits` does, if all keys are known. Returns the
-/// spot up to which it did so, and how many rows it took. It finds many candidates before it takes the first row,
-/// so that no row waits for the memory of another. Takes no rows if no memory is found for candidates.
+/// Takes the rows in a range at the first spots, those that have a code, as `take_hits` does. Returns the spot up to
+/// which it did so, and how many rows it took. Finds many candidates before it takes the first row, so that no row
+/// waits for the memory of another. Takes none, and returns 0 and 0, if the range is empty, no spot has a code, a key
+/// is unknown or no memory is found for candidates.
 fn take_coded(
     tags: &TagList,
     stands: &mut Vec<bool>,
@@ -153,8 +156,8 @@ fn take_coded(
     )
 }
 
-/// Takes the rows in a range at the spots that have a code, one batch of candidates at a time. Returns the spot up
-/// to which it did so, and how many rows it took.
+/// Takes the rows in a range at the spots that have a code, one batch of candidates at a time; `candidates` holds a
+/// batch. All keys must be known. Returns the spot up to which it did so, and how many rows it took.
 fn take_blocks(
     tags: &TagList,
     stands: &mut Vec<bool>,
@@ -202,8 +205,8 @@ fn take_blocks(
     (spot, count)
 }
 
-/// Takes those candidates whose rows are in the range. The candidates include all its rows at the spots
-/// `from..to`. Returns how many rows it took.
+/// Takes those candidates whose rows are in the range. All rows of the range at the spots `from..to` must be among the
+/// candidates. Returns how many rows it took.
 fn take_candidates(
     tags: &TagList,
     stands: &mut Vec<bool>,

@@ -3,7 +3,7 @@ use Rattle.std.specs.Prelude.{◌≡◌, ℕ, ◌+◌, ◌-◌, ◌^◌, min, le
 use Rattle.crack_plain.specs.Plain.{PlainView, accepted_of}
 use Rattle.crack_plain.specs.declared.statistics.Statistics.{Statistics}
 
--- the sum of two numbers, at most the greatest number of 64 bits
+-- the sum of two numbers, or the greatest number of 64 bits if the sum is above it
 abbrev pub capped_sum : ℕ → ℕ → ℕ
 capped_sum m n = min (m + n) (2 ^ 64 - 1)
 
@@ -11,7 +11,7 @@ capped_sum m n = min (m + n) (2 ^ 64 - 1)
 abbrev pub no_statistics : Statistics
 no_statistics = record { rows = 0; pending_insertions = 0; pending_deletions = 0; pieces = 0; cells = 0; free_cells = 0; commands_accepted = 0; commands_since_checkpoint = 0 }
 
--- the statistics of two sets of partitions together: each number is the capped sum
+-- the statistics of two sets of partitions together: each number is the capped sum of the two
 abbrev pub together : Statistics → Statistics → Statistics
 together s t = record {
   rows = capped_sum s.rows t.rows;
@@ -24,8 +24,8 @@ together s t = record {
   commands_since_checkpoint = capped_sum s.commands_since_checkpoint t.commands_since_checkpoint;
 }
 
--- the statistics agree with a partition's plain rows and counts of commands; their other numbers depend on its
--- column
+-- the number of rows and both numbers of commands in the statistics are those of this plain table; the other numbers,
+-- which depend on the partition's column, may be any
 pub record AreNumbersOf (table : PlainView) (s : Statistics) : Type 0 where
   pub rows : s.rows ≡ length table.state.rows
   pub accepted : s.commands_accepted ≡ accepted_of table

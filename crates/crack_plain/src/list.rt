@@ -8,7 +8,7 @@ ghost use Rattle.crack_plain.specs.Inside.{amount_in};
 use crack_row::{KeyRange, Refusal, Row, Serial};
 use std::alloc::Global;
 
-/// The row with this serial, if there is one: O(rows).
+/// The row with this serial, or `None` if there is none: O(rows).
 pub(crate) fn row_in(rows: &[Row], serial: Serial) -> Option<Row>
     ensures { result ≡ row_in rows.now serial }
 {
@@ -27,7 +27,7 @@ pub(crate) fn take_out(rows: &mut Vec<Row>, serial: Serial)
     rows.retain(|row| row.serial != serial);
 }
 
-/// Replaces the row that has the new row's serial, if there is one: O(rows).
+/// Replaces the row that has the serial of `new`, if there is one, by `new`: O(rows).
 pub(crate) fn replace(rows: &mut [Row], new: Row)
     ensures { rows.new ≡ map (replaced new) rows.old }
 {
@@ -36,7 +36,7 @@ pub(crate) fn replace(rows: &mut [Row], new: Row)
     }
 }
 
-/// The new row if both have the same serial, otherwise the old row.
+/// `new` if both rows have the same serial, otherwise `row`.
 fn replaced(new: Row, row: Row) -> Row
     ensures { result ≡ replaced new row }
 {
@@ -77,7 +77,7 @@ fn amount_in(range: KeyRange, row: Row) -> i128
     }
 }
 
-/// The rows whose key is in the range: O(rows). Refused with `OutOfMemory` if no memory is found.
+/// The rows whose key is in the range, in the same order: O(rows). Refused with `OutOfMemory` if no memory is found.
 pub(crate) fn rows_in(alloc: Global, rows: &[Row], range: KeyRange) -> Result<Vec<Row>, Refusal>
     ensures ok { IfOk result (λ listed. listed.items ≡ rows_in range rows.now) }
     ensures small { IfOk result (λ listed. length listed.items ≤ length rows.now) }

@@ -17,7 +17,7 @@ pub struct Statistics {
 }
 
 impl Statistics {
-    /// The statistics of no partition: each number is 0.
+    /// The statistics of no partition: each number is 0. O(1).
     pub fn none() -> Statistics
         ensures { result ≡ no_statistics }
     {
@@ -33,8 +33,8 @@ impl Statistics {
         }
     }
 
-    /// Adds the statistics of two sets of partitions. Each number is the sum, at most the greatest number of 64
-    /// bits.
+    /// Adds the statistics of two sets of partitions: each number is the sum of the two, or the greatest number of 64
+    /// bits if the sum is above it. O(1).
     pub fn plus(self, other: Statistics) -> Statistics
         ensures { result ≡ together self other }
     {

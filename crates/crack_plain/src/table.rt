@@ -46,7 +46,7 @@ impl Model for PlainTable {
 }
 
 impl PlainTable {
-    /// A table without rows. Takes no memory.
+    /// A table without rows. O(1), takes no memory.
     pub fn new(alloc: Global) -> PlainTable
         ensures state { result.state ≡ no_rows }
         ensures accepted { (result.checkpointed ≡ 0) × (result.since ≡ 0) }
@@ -59,7 +59,7 @@ impl PlainTable {
         }
     }
 
-    /// The rows, by rising serial.
+    /// The rows, by rising serial. O(1).
     pub fn rows(&self) -> &[Row]
         ensures value { result.now ≡ self.now.state.rows }
         ensures numbered { IsNumbered self.now.state }
@@ -68,7 +68,7 @@ impl PlainTable {
         self.rows.as_slice()
     }
 
-    /// The number of commands accepted since the table was made. Checkpoints don't reset it.
+    /// The number of commands accepted since the table was made. Checkpoints don't reset it. O(1).
     pub fn accepted(&self) -> u64
         ensures value { result ≡ accepted_of self.now }
         ensures bounded { accepted_of self.now ≤ 4294967295 }
@@ -76,7 +76,8 @@ impl PlainTable {
         self.checkpointed + self.since
     }
 
-    /// Makes a checkpoint, and returns how many commands were accepted since the one before. O(1). No row changes.
+    /// Makes a checkpoint: the number of commands accepted since the last checkpoint becomes 0. Returns that number
+    /// as it was. Without an earlier checkpoint it counts from when the table was made. O(1). No row changes.
     pub fn checkpoint(&mut self) -> u64
         ensures since { result ≡ self.old.since }
         ensures checkpointed { self.new ≡ checkpointed_table self.old }
@@ -87,7 +88,8 @@ impl PlainTable {
         since
     }
 
-    /// The layout of these rows as a column of one piece. O(1). Refused with `OutOfMemory` if no memory is found.
+    /// The layout of a column of one piece with the table's rows: each row has a cell, and none is pending. O(1).
+    /// Refused with `OutOfMemory` if no memory is found.
     pub fn whole_layout(&self) -> Result<Layout, Refusal>
         ensures ok { IfOk result (λ layout. layout ≡ whole_layout self.now.state) }
         ensures equations { IfOk result (λ layout. IsLayout all_keys layout) }
@@ -111,7 +113,8 @@ impl PlainTable {
         })
     }
 
-    /// The statistics of a column of one piece with these rows. O(1).
+    /// The table's statistics, in which its rows are a column of one piece, each row has a cell, and nothing is
+    /// pending or free. O(1).
     pub fn statistics(&self) -> Statistics
         ensures { result ≡ plain_statistics self.now }
     {
@@ -128,9 +131,9 @@ impl PlainTable {
         }
     }
 
-    /// Answers one command. An insert takes O(1), any other command O(rows). Refused with `HistoryFull` once
-    /// `MOST_ACCEPTED` commands were accepted, and with `OutOfMemory` if an insert or a select finds no memory. A
-    /// refusal changes nothing.
+    /// Answers one command: makes its change and returns its reply. An insert takes O(1), except for growth, and any
+    /// other command O(rows). Refused with `HistoryFull` once `MOST_ACCEPTED` commands were accepted, and with
+    /// `OutOfMemory` if an insert or a select finds no memory. A refusal changes nothing.
     pub fn apply(&mut self, command: &Command) -> Result<Reply, Refusal>
         ensures reply { IfOk result (λ reply. reply ≡ (answer self.old.state command.now).0) }
         ensures small { IfOk result IsSmall }
@@ -153,7 +156,8 @@ impl PlainTable {
         Ok(reply)
     }
 
-    /// The reply to the command: O(rows). Refused with `OutOfMemory` if a select finds no memory.
+    /// The reply to the command, without making its change: O(rows). Refused with `OutOfMemory` if a select finds no
+    /// memory.
     fn reply_to(&self, command: &Command) -> Result<Reply, Refusal>
         ensures reply { IfOk result (λ reply. reply ≡ reply_to self.now.state command.now) }
         ensures small { IfOk result IsSmall }
@@ -181,8 +185,9 @@ impl PlainTable {
     }
 }
 
-/// Makes a change to the rows, if there is one: O(1) for an insertion, otherwise O(rows). An inserted row gets the
-/// serial `next`, which then rises by one. Refused with `OutOfMemory` if an insertion finds no memory.
+/// Makes the change to the rows; `None` changes nothing. An inserted row gets the serial `next`, which then rises by
+/// one. Takes O(rows); an insertion takes O(1), except for growth. Refused with `OutOfMemory` if an insertion finds
+/// no memory; then nothing has changed.
 fn change_rows(rows: &mut Vec<Row>, next: &mut u64, change: Option<Change>) -> Result<(), Refusal>
     requires small { next.old + 1 < 2 ^ 64 }
     ensures changed { OnOk result (let old : PlainState = record { rows = rows.old.items; next = next.old } in

@@ -7,26 +7,26 @@ use Rattle.crack_row.specs.declared.command.Command.TheVariants.{Insert, Delete,
 use Rattle.crack_row.specs.declared.command.Change.{Change}
 use Rattle.crack_row.specs.declared.command.Change.TheVariants.{Place, Remove, Rewrite}
 
--- the change that a command makes to the rows, if any
+-- the change that a command makes to the rows; none for a count, a sum or a select
 abbrev pub change_of : Command → Option Change
 change_of (Insert key payload) = Some (Place key payload)
 change_of (Delete serial) = Some (Remove serial)
 change_of (Update serial key payload) = Some (Rewrite serial key payload)
 change_of _ = None
 
--- the range that a command reads, if any
+-- the range that a command reads; none for an insert, a delete or an update
 abbrev pub range_of : Command → Option Range
 range_of (Count range) = Some range
 range_of (Sum range) = Some range
 range_of (Select range) = Some range
 range_of _ = None
 
--- the key that a change gives a row; none if it deletes one
+-- the key that an insertion or an update gives its row; none if the change deletes a row
 abbrev pub brought_key : Change → Option Key
 brought_key (Place key payload) = Some key
 brought_key (Remove serial) = None
 brought_key (Rewrite serial key payload) = Some key
 
--- the new key of the row, in an insert or an update; none in any other command
+-- the key that an insert or an update gives its row; none for any other command
 abbrev pub key_of : Command → Option Key
 key_of command = option_and_then brought_key (change_of command)

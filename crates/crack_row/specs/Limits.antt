@@ -10,7 +10,7 @@ pub record AreLimits (limits : Limits) : Type 0 where
   pub cells : (1 ≤ limits.cells) × (limits.cells ≤ GREATEST_CELLS)
   pub life : (1 ≤ limits.life) × (limits.life ≤ GREATEST_LIFE)
 
--- whether a limit is at least 1 and at most `greatest`
+-- whether the limit, the second number, is at least 1 and at most the first number, the greatest of its kind
 abbrev pub is_limit : ℕ → ℕ → Bool
 is_limit greatest limit = nat_le 1 limit && nat_le limit greatest
 

@@ -19,7 +19,7 @@ is_in r key = nat_le r.low key && nat_lt key r.high
 abbrev pub in_range : Range → Row → Bool
 in_range r row = is_in r row.key.0
 
--- the intersection of two ranges; if they share no key, the empty range at the low end of the second
+-- the range of the keys in both ranges; if there are none, the empty range whose ends are both the second's low end
 abbrev pub clipped : Range → Range → Range
 clipped r s =
     let low = max r.low s.low in

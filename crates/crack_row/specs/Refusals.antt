@@ -3,7 +3,7 @@ use Rattle.std.specs.Prelude.{ℕ}
 use Rattle.crack_row.specs.declared.refusal.Refusal.{Refusal}
 use Rattle.crack_row.specs.declared.refusal.Refusal.TheVariants.{BadStatement, BadRange, KeyOutside, NoSuchPartition, HistoryFull, GateGaveUp, OutOfMemory, NoCell, LifeOver, BadSplits, TooManyPartitions, BadWorkerCount, BadLimit, WorkersMissing, StrangeReceipt, ReadFault, WriteFault, BadRecord}
 
--- the number of a refusal
+-- the number of a refusal, which comes first in its text; no refusal has the number 3
 abbrev pub code_of : Refusal → ℕ
 code_of BadStatement = 1
 code_of BadRange = 2

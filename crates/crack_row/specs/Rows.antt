@@ -13,19 +13,19 @@ row_with serial key payload = record { serial = serial; key = key; payload = pay
 abbrev pub has_serial : ℕ → Row → Bool
 has_serial serial row = row.serial.0 == serial
 
--- whether a row has another serial
+-- whether a row's serial isn't this one
 abbrev pub is_other : ℕ → Row → Bool
 is_other serial row = not (row.serial.0 == serial)
 
--- the new row if both rows have the same serial, otherwise the old row
+-- `new` if the old row `row` has the same serial, otherwise `row`
 abbrev pub replaced : Row → Row → Row
 replaced new row = if row.serial.0 == new.serial.0 then new else row
 
--- the amount that a payload adds to a sum
+-- the amount that a payload adds to a sum: its number
 abbrev pub amount : Payload → ℤ
 amount payload = payload.0
 
--- the greatest absolute value of an amount
+-- the greatest absolute value of an amount: that of the least payload
 abbrev pub farthest_amount : ℕ
 farthest_amount = 2 ^ 63
 

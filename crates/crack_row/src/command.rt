@@ -53,7 +53,7 @@ pub enum Change {
 }
 
 impl Command {
-    /// The change that the command makes to the rows, if any.
+    /// The change that the command makes to the rows; `None` for a count, a sum or a select. O(1).
     pub fn change(&self) -> Option<Change>
         ensures { result ≡ change_of self.now }
     {
@@ -73,7 +73,7 @@ impl Command {
         }
     }
 
-    /// The range that the command reads, if any.
+    /// The range that the command reads; `None` for an insert, a delete or an update. O(1).
     pub fn range(&self) -> Option<KeyRange>
         ensures { result ≡ range_of self.now }
     {
@@ -83,7 +83,7 @@ impl Command {
         }
     }
 
-    /// The new key of the row, in an insert or an update; `None` in any other command.
+    /// The key that an insert or an update gives its row; `None` for any other command. O(1).
     pub fn key(&self) -> Option<Key>
         ensures { result ≡ key_of self.now }
     {
@@ -104,8 +104,8 @@ pub enum Policy {
     /// Only those whose key is in the range. Room for them is made near the range: a row that is in the way just
     /// above it is evicted, and becomes a pending insertion again.
     Ripple,
-    /// As `Ripple`; but first all of them, wherever they lie, if many insertions are pending compared with the
-    /// column's rows and pieces.
+    /// As `Ripple`; but first all of them, wherever they lie, if 64 times the pending insertions are at least the
+    /// column's rows times its pieces.
     Auto,
 }
 
@@ -150,7 +150,7 @@ impl Reply {
         }
     }
 
-    /// Whether two replies are equal: O(rows in their lists).
+    /// Whether this reply and `other` are equal: O(rows in their lists).
     pub fn is_same(&self, other: &Reply) -> bool
         ensures { IsTrue result ↔ (self.now ≡ other.now) }
     {

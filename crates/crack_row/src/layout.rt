@@ -28,14 +28,14 @@ impl Model for PieceList {
 }
 
 impl PieceList {
-    /// Wraps a vector of pieces. Takes no memory.
+    /// Makes a list of these pieces. O(1), takes no memory.
     pub fn from_vec(pieces: Vec<PieceSize>) -> PieceList
         ensures { result ≡ pieces.items }
     {
         PieceList { pieces }
     }
 
-    /// The pieces as a slice.
+    /// The pieces as a slice. O(1).
     pub fn as_slice(&self) -> &[PieceSize]
         ensures { result.now ≡ self.now }
     {

@@ -27,7 +27,7 @@ pub struct Limits {
 
 impl Limits {
     /// The limits with this history limit, which isn't checked, the greatest cell and life limits, and upkeep on
-    /// request.
+    /// request. O(1).
     pub fn of_history(history: u64) -> Limits
         ensures { result ≡ of_history history }
     {
@@ -39,7 +39,7 @@ impl Limits {
         }
     }
 
-    /// Whether each limit is at least 1 and at most the greatest of its kind.
+    /// Whether each limit is at least 1 and at most the greatest of its kind. O(1).
     pub fn are_valid(self) -> bool
         ensures value { result ≡ are_limits self }
         ensures valid { IsTrue result ↔ AreLimits self }

@@ -1,4 +1,5 @@
-//! The widths of keys, payloads and bounds, defined only here, and the comparisons between them.
+//! The widths of keys, payloads and bounds, defined only here, and the comparisons between them. Each function takes
+//! O(1).
 ghost use Rattle.std.specs.Prelude.{pos, neg_ℤ, ◌≤ℤ◌, ◌≡◌, ◌<◌, ◌≤◌, ◌+◌, ◌↔◌, IsTrue, IsSome, IfSome, MatchOption};
 ghost use Rattle.crack_row.specs.Rows.{amount, farthest_amount};
 ghost use Rattle.crack_row.specs.declared.TheConstants.{GREATEST_KEY};
@@ -31,7 +32,7 @@ impl Key {
         self.0
     }
 
-    /// The bound at the key: the greatest one that isn't above it.
+    /// The bound with the key's number: lesser keys are below it, and the key itself isn't.
     #[inline]
     pub fn bound(self) -> Bound
         ensures { result.0 ≡ self.0 }
@@ -57,7 +58,7 @@ impl Payload {
         self.0
     }
 
-    /// The amount that the payload adds to a sum.
+    /// The amount that the payload adds to a sum: its number, in 128 bits.
     #[inline]
     pub fn amount(self) -> i128
         ensures value { result ≡ amount self }
@@ -93,7 +94,7 @@ impl Bound {
         (key.0 as BoundNumber) < self.0
     }
 
-    /// The least key that isn't below the bound, or `None` if all keys are.
+    /// The least key that isn't below the bound, or `None` if all keys are below it.
     #[inline]
     pub fn least_key(self) -> Option<Key>
         ensures { MatchOption result (GREATEST_KEY < self.0) (λ key. key.0 ≡ self.0) }
@@ -104,7 +105,7 @@ impl Bound {
         Some(Key(self.0 as KeyNumber))
     }
 
-    /// The bound as an inner bound, or `None` if it doesn't lie between two keys.
+    /// The bound as an inner bound, or `None` if it doesn't lie between two keys: if it is 0 or above `GREATEST_KEY`.
     #[inline]
     pub fn inner(self) -> Option<InnerBound>
         ensures value { IfSome result (λ inner. inner.0 ≡ self.0) }
@@ -133,7 +134,7 @@ impl InnerBound {
         self.0
     }
 
-    /// The bound as an end of a range.
+    /// The `Bound` with the same number.
     #[inline]
     pub fn bound(self) -> Bound
         ensures { result.0 ≡ self.0 }

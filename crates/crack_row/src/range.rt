@@ -34,7 +34,7 @@ impl Default for KeyRange {
 
     ghost is_default = { λ r. (r.low ≡ 0) × (r.high ≡ 0) };
 
-    /// The empty range at 0.
+    /// The empty range whose ends are both 0.
     fn default() -> KeyRange {
         let least = RangeEnd::of(Bound(0));
         KeyRange {
@@ -45,8 +45,8 @@ impl Default for KeyRange {
 }
 
 impl KeyRange {
-    /// The range between two numbers. Refused with `BadRange` if `low` is above `high`, or `high` above
-    /// `GREATEST_BOUND`.
+    /// The range from `low` up to but not including `high`. Refused with `BadRange` if `low` is above `high`, or if
+    /// `high` is above `GREATEST_BOUND`. O(1).
     pub fn new(low: BoundNumber, high: BoundNumber) -> Result<KeyRange, Refusal>
         ensures ok { IfOk result (λ r. (r.low ≡ low) × (r.high ≡ high) × (low ≤ high) × (high ≤ GREATEST_BOUND)) }
         ensures err { IfErr result (λ e. (e ≡ Refusal.BadRange) × ((low ≤ high) × (high ≤ GREATEST_BOUND) → ⊥)) }
@@ -58,8 +58,8 @@ impl KeyRange {
         }
     }
 
-    /// The range between two bounds. Refused with `BadRange` if `low` is above `high`, or `high` above
-    /// `GREATEST_BOUND`.
+    /// The range from `low` up to but not including `high`. Refused with `BadRange` if `low` is above `high`, or if
+    /// `high` is above `GREATEST_BOUND`. O(1).
     pub fn between(low: Bound, high: Bound) -> Result<KeyRange, Refusal>
         ensures ok { IfOk result (λ r. (r.low ≡ low.0) × (r.high ≡ high.0) × (low.0 ≤ high.0) ×
             (high.0 ≤ GREATEST_BOUND)) }
@@ -68,7 +68,7 @@ impl KeyRange {
         KeyRange::new(low.0, high.0)
     }
 
-    /// The range of all keys.
+    /// The range of all keys. O(1).
     pub fn all() -> KeyRange
         ensures low { result.low ≡ 0 }
         ensures high { result.high ≡ GREATEST_BOUND }
@@ -92,14 +92,14 @@ impl KeyRange {
         self.high.bound()
     }
 
-    /// Whether no key is in the range.
+    /// Whether no key is in the range. O(1).
     pub fn is_empty(&self) -> bool
         ensures { IsTrue result ↔ (self.now.high ≤ self.now.low) }
     {
         self.high() <= self.low()
     }
 
-    /// The least and the greatest key in the range, or `None` if the range is empty.
+    /// The least and the greatest key in the range, or `None` if the range is empty. O(1).
     #[inline]
     pub fn first_and_last(&self) -> Option<(Key, Key)>
         ensures value { MatchOption result (self.now.high ≤ self.now.low) (λ ends. (ends.0.0 ≡ self.now.low) ×
@@ -112,14 +112,15 @@ impl KeyRange {
         Some((Key(self.low.number), Key(self.high.number_below())))
     }
 
-    /// Whether the key is in the range.
+    /// Whether the key is in the range. O(1).
     pub fn contains(&self, key: Key) -> bool
         ensures { IsTrue result ↔ IsIn self.now key.0 }
     {
         !self.low().is_above(key) && self.high().is_above(key)
     }
 
-    /// The intersection of two ranges. If they share no key, the empty range at the low end of `other`.
+    /// The range of the keys that are in both ranges. If there are none, the empty range whose ends are both the low
+    /// end of `other`. O(1).
     pub fn clip(&self, other: KeyRange) -> KeyRange
         ensures value { result ≡ clipped self.now other }
         ensures keys { (k : ℕ) → IsIn result k ↔ (IsIn self.now k × IsIn other k) }
@@ -134,7 +135,7 @@ impl KeyRange {
         }
     }
 
-    /// The range between two bounds that are in order and at most `GREATEST_BOUND`.
+    /// The range from `low` up to but not including `high`. The bounds must be in order and at most `GREATEST_BOUND`.
     fn of(low: Bound, high: Bound) -> KeyRange
         requires ordered { low.0 ≤ high.0 }
         requires bounded { high.0 ≤ GREATEST_BOUND }
@@ -177,6 +178,7 @@ impl PartialEq for RangeEnd {
 
     ghost laws = { Prim.search (comparing, rules) };
 
+    /// Whether both ends are the same bound. O(1).
     fn eq(&self, other: &RangeEnd) -> bool {
         self.bound() == other.bound()
     }
@@ -187,7 +189,7 @@ impl Eq for RangeEnd {
 }
 
 impl RangeEnd {
-    /// The end at this bound.
+    /// The end at this bound, which must be at most `GREATEST_BOUND`.
     #[inline]
     fn of(bound: Bound) -> RangeEnd
         requires { bound.0 ≤ GREATEST_BOUND }
@@ -218,7 +220,7 @@ impl RangeEnd {
         }
     }
 
-    /// The number of the greatest key below the end, which isn't 0.
+    /// The number of the greatest key below the end. The end must not be 0: no key is below 0.
     #[inline]
     fn number_below(self) -> KeyNumber
         requires { 0 < self }

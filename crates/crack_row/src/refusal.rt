@@ -51,9 +51,10 @@ pub enum Refusal {
     /// Workers of the table are missing from a gathering: `missing` has a bit for each missing number.
     #[error("refused 15{}", BitNumbers(*missing))]
     WorkersMissing { missing: u64 },
-    /// Receipts don't cover a partition's entries, a worker's number of replies differs from a partition's, or a
-    /// partition or a worker isn't the table's. `position` is that of an entry or a receipt, that number of replies,
-    /// or 0.
+    /// One of three cases. Receipts don't cover a partition's entries: `position` is that of an entry, or one that a
+    /// receipt names. A worker's number of replies from a partition isn't the number of its entries in the
+    /// partition's history: `position` is that number of replies. A partition or a worker isn't the table's:
+    /// `position` is the worker's number of replies from the partition, or 0.
     #[error("refused 16 {part} {position}")]
     StrangeReceipt { part: u32, position: u64 },
     /// The reader failed or exceeded its stated bound, or the port isn't available.
@@ -73,6 +74,8 @@ pub enum Refusal {
 struct BitNumbers(u64);
 
 impl fmt::Display for BitNumbers {
+    /// For each set bit, from the lowest on, writes a space and the number of the bit, counted from 0. Fails if the
+    /// writer fails.
     fn fmt<W: fmt::Write>(&self, f: &mut fmt::Formatter<W>) -> fmt::Result {
         for number in 0..64u32 {
             if (self.0 >> number) & 1 == 1 {
@@ -84,7 +87,7 @@ impl fmt::Display for BitNumbers {
 }
 
 impl Refusal {
-    /// The refusal's number.
+    /// The refusal's number: the one that comes first in its text. O(1).
     pub fn code(&self) -> u32
         ensures { result ≡ code_of self.now }
     {
@@ -115,7 +118,7 @@ impl Refusal {
 }
 
 impl Refusal {
-    /// The cause in words for a terminal or a log: one clause without a full stop or a line feed.
+    /// The cause in words for a terminal or a log: one clause without a full stop or a line feed. O(1).
     pub fn cause(&self) -> &'static str {
         match self {
             Refusal::BadStatement => "the line is not a statement",
@@ -145,6 +148,7 @@ impl From<AllocError> for Refusal {
 
     ghost from_gives = { λ _ e. e ≡ OutOfMemory };
 
+    /// Always `OutOfMemory`.
     fn from(_error: AllocError) -> Refusal {
         Refusal::OutOfMemory
     }
@@ -155,6 +159,7 @@ impl<T: Drop> From<AllocFailed<T>> for Refusal {
 
     ghost from_gives = { λ _ e. e ≡ OutOfMemory };
 
+    /// Always `OutOfMemory`. The value that wasn't stored is dropped.
     fn from(_error: AllocFailed<T>) -> Refusal {
         Refusal::OutOfMemory
     }

@@ -13,6 +13,7 @@ pub struct RowList {
 
 // Written out so that the crates that use the type call this function and prove nothing about its fields.
 impl Drop for RowList {
+    /// Frees the memory of the rows.
     fn drop(self) {
         let Self { rows } = self;
         drop(rows);
@@ -29,14 +30,14 @@ impl Model for RowList {
 }
 
 impl RowList {
-    /// Wraps a vector of rows. Takes no memory.
+    /// Makes a list of these rows. O(1), takes no memory.
     pub fn from_vec(rows: Vec<Row>) -> RowList
         ensures { result ≡ rows.items }
     {
         RowList { rows }
     }
 
-    /// The rows as a slice.
+    /// The rows as a slice. O(1).
     pub fn as_slice(&self) -> &[Row]
         ensures { result.now ≡ self.now }
     {

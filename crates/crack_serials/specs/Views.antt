@@ -5,7 +5,7 @@ use Rattle.indexmap.specs.IndexMap.{IndexMap, spare}
 use Rattle.crack_arena.specs.Arena.{Handle}
 
 module _ {S : Type 0} where
-  -- the entries of all maps
+  -- the entries of all maps, map by map
   abbrev pub entries_in_maps : List (IndexMap ℕ Handle S) → List (ℕ × Handle)
   entries_in_maps maps = flat_map (λ (m : IndexMap ℕ Handle S). m.entries) maps
 

@@ -29,6 +29,7 @@ impl BuildHasher for SerialHashing {
 
     ghost build_hasher = { λ _. record { serial = 0 } };
 
+    /// A hasher to which nothing was written yet. It hashes the serial 0.
     fn build_hasher(&self) -> SerialHasher {
         SerialHasher { serial: 0 }
     }
@@ -64,6 +65,8 @@ impl Hasher for SerialHasher {
             % 4294967296
     }
 
+    /// If there are 8 bytes, takes them as the serial to hash, lowest byte first, in place of the previous one.
+    /// Otherwise does nothing.
     fn write(&mut self, bytes: &[u8]) {
         if bytes.len() == 8 {
             self.serial = u64::from_le_bytes([

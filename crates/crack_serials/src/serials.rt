@@ -51,7 +51,7 @@ pub struct Lead {
 }
 
 impl Serials {
-    /// Makes a map without serials. Takes no memory.
+    /// Makes a map without serials. O(1), takes no memory.
     pub fn new(alloc: Global) -> Serials
         ensures entries { result.entries ≡ [] }
         ensures room { result.room ≡ [] }
@@ -61,12 +61,12 @@ impl Serials {
         }
     }
 
-    /// The allocator of the maps.
+    /// The allocator of the maps. O(1).
     pub fn allocator(&self) -> &Global {
         self.maps.allocator()
     }
 
-    /// The number of serials; `usize::MAX` if there are more. O(maps).
+    /// The number of serials, or `usize::MAX` if there are more. O(maps).
     pub fn len(&self) -> usize
         ensures { result ≡ min (length self.now.entries) (2 ^ 64 - 1) }
     {
@@ -77,7 +77,7 @@ impl Serials {
         rows
     }
 
-    /// The handle of a serial, if any. O(1).
+    /// The handle of a serial, or `None` if the serial isn't in its map. O(1).
     pub fn get(&self, serial: Serial) -> Option<Handle<Row>>
         ensures { result ≡ handle_of self.now.entries serial.0 }
     {
@@ -85,7 +85,8 @@ impl Serials {
         map.get(&serial.0).copied()
     }
 
-    /// Looks up a serial: its handle, and where its entry is. `None` if the serial isn't in its map. O(1).
+    /// Looks up a serial: its handle, and the index of its entry in its map. `None` if the serial isn't in its map.
+    /// O(1).
     pub fn find(&self, serial: Serial) -> Option<Lead>
         ensures serial { IfSome result (λ lead. lead.serial ≡ serial) }
         ensures entry { IfSome result (λ lead. IsLead lead self.now.entries) }
@@ -100,7 +101,7 @@ impl Serials {
         })
     }
 
-    /// Looks up a serial that must be in its map. O(1).
+    /// Looks up a serial that must be in its map: its handle, and the index of its entry there. O(1).
     pub fn lead_of(&self, serial: Serial) -> Lead
         requires { IsSome (handle_of self.now.entries serial.0) }
         ensures serial { result.serial ≡ serial }
@@ -113,8 +114,8 @@ impl Serials {
         }
     }
 
-    /// Makes room for the insertion of a serial. O(1), except for the growth of its map. Refused with
-    /// `OutOfMemory` if no memory is found; then no entry has changed.
+    /// Makes room for the insertion of a serial. O(1), except for the first call, which makes the maps, and for the
+    /// growth of the serial's map. Refused with `OutOfMemory` if no memory is found; then no entry has changed.
     pub fn reserve(&mut self, serial: Serial) -> Result<(), Refusal>
         ensures entries { self.new.entries ≡ self.old.entries }
         ensures ok { OnOk result (0 < room_for self.new serial.0) }
@@ -126,8 +127,8 @@ impl Serials {
         reserve_in(&mut self.maps, map_of(serial), 1)
     }
 
-    /// Makes room for the insertions of `count` consecutive serials, from `first` on. O(maps), except for growth.
-    /// Refused with `OutOfMemory` if no memory is found; then no entry has changed.
+    /// Makes room for the insertions of `count` consecutive serials, from `first` on. O(maps), except for the growth
+    /// of maps. Refused with `OutOfMemory` if no memory is found; then no entry has changed.
     pub fn reserve_many(&mut self, first: Serial, count: usize) -> Result<(), Refusal>
         ensures entries { self.new.entries ≡ self.old.entries }
         ensures ok { OnOk result (HasRoom self.new first.0 count) }
@@ -142,7 +143,8 @@ impl Serials {
         reserve_shares(&mut self.maps, first, count)
     }
 
-    /// Makes the maps if there are none. Refused with `OutOfMemory` if no memory is found; then there are none.
+    /// Makes the 64 maps if there are none. O(maps). Refused with `OutOfMemory` if no memory is found; then there are
+    /// none.
     #[inline(always)]
     fn have_maps(&mut self) -> Result<(), Refusal>
         ensures entries { self.new.entries ≡ self.old.entries }
@@ -157,8 +159,8 @@ impl Serials {
         Ok(())
     }
 
-    /// Sets the handle of a serial, and returns its handle before, if any. O(1), except for growth. Refused with
-    /// `OutOfMemory` if no memory is found; then no entry has changed.
+    /// Sets the handle of a serial, and returns the serial's old handle, or `None` if it had none. O(1), except for
+    /// growth. Refused with `OutOfMemory` if no memory is found; then no entry has changed.
     pub fn insert(
         &mut self,
         serial: Serial,
@@ -179,8 +181,8 @@ impl Serials {
         Ok(self.insert_reserved(serial, handle))
     }
 
-    /// Sets the handle of a serial, for which there must be room in its map, and returns its handle before, if
-    /// any. Takes no memory. O(1).
+    /// Sets the handle of a serial, and returns the serial's old handle, or `None` if it had none. There must be room
+    /// in the serial's map. Takes no memory. O(1).
     pub fn insert_reserved(&mut self, serial: Serial, handle: Handle<Row>) -> Option<Handle<Row>>
         requires { 0 < room_for self.old serial.0 }
         ensures old { result ≡ handle_of self.old.entries serial.0 }
@@ -197,7 +199,7 @@ impl Serials {
         }
     }
 
-    /// Removes a serial, and returns the handle that it had, if any. Takes no memory. O(1).
+    /// Removes a serial, and returns its handle, or `None` if the serial wasn't in its map. Takes no memory. O(1).
     pub fn remove(&mut self, serial: Serial) -> Option<Handle<Row>>
         ensures handle { result ≡ handle_of self.old.entries serial.0 }
         ensures updates { Maps serial.0 None self.old.entries self.new.entries }
@@ -210,8 +212,9 @@ impl Serials {
         Some(handle)
     }
 
-    /// Removes a serial that was looked up, without another search: the last entry of its map takes its place.
-    /// Takes no memory. O(1).
+    /// Removes the serial of `lead`, the result of a look-up, without another search. The lead must still be right:
+    /// the entry at its index has its serial and its handle. The last entry of the serial's map takes the place of
+    /// the removed one. Takes no memory. O(1).
     pub fn forget_at(&mut self, lead: Lead)
         requires { IsLead lead self.old.entries }
         ensures updates { Maps lead.serial.0 None self.old.entries self.new.entries }
@@ -222,7 +225,8 @@ impl Serials {
         map.swap_remove_index(lead.at);
     }
 
-    /// Sets the handle of a serial that was looked up, without another search. Takes no memory. O(1).
+    /// Sets the handle of the serial of `lead`, the result of a look-up, without another search. The lead must still
+    /// be right: the entry at its index has its serial and its old handle. Takes no memory. O(1).
     pub fn lead_to(&mut self, lead: Lead, handle: Handle<Row>)
         requires { IsLead lead self.old.entries }
         ensures updates { Maps lead.serial.0 (Some handle) self.old.entries self.new.entries }
@@ -237,7 +241,8 @@ impl Serials {
     }
 }
 
-/// Makes the 64 maps. Refused with `OutOfMemory` if no memory is found for all; then none is left.
+/// Makes the 64 maps in a list that has none. O(maps). Refused with `OutOfMemory` if memory isn't found for all of
+/// them; then there are none.
 #[cold]
 #[inline(never)]
 fn make_maps(maps: &mut Vec<Map>) -> Result<(), Refusal>
@@ -261,7 +266,7 @@ fn make_maps(maps: &mut Vec<Map>) -> Result<(), Refusal>
 }
 
 /// Makes room for this many more entries in the map with this number. O(1), except for growth. Refused with
-/// `OutOfMemory` if no memory is found.
+/// `OutOfMemory` if no memory is found; then no entry has changed.
 #[inline(always)]
 fn reserve_in(maps: &mut Vec<Map>, number: usize, additional: usize) -> Result<(), Refusal>
     requires { number < length maps.old.items }
@@ -275,8 +280,8 @@ fn reserve_in(maps: &mut Vec<Map>, number: usize, additional: usize) -> Result<(
     Ok(())
 }
 
-/// Makes room in each map for its share of `count` consecutive serials, from `first` on. Refused with
-/// `OutOfMemory` if no memory is found; some maps may then have room.
+/// Makes room in each map for its share of `count` consecutive serials, from `first` on. O(maps), except for growth.
+/// Refused with `OutOfMemory` if no memory is found; then no entry has changed, but some maps may have more room.
 fn reserve_shares(maps: &mut Vec<Map>, first: Serial, count: usize) -> Result<(), Refusal>
     requires { length maps.old.items ≡ 64 }
     ensures lists { KeepsLists maps.old.items maps.new.items }

@@ -11,7 +11,7 @@ pub(crate) const MAPS: usize = 64;
 /// How many neighbouring serials belong to the same map.
 pub(crate) const NEIGHBOURS: u64 = 32;
 
-/// After this many serials the first map has its turn again.
+/// How many consecutive serials all maps together have if each map has `NEIGHBOURS` of them.
 pub(crate) const ROUND: u64 = 2048;
 
 /// The number of the map to which a serial belongs. O(1).

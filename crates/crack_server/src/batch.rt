@@ -21,7 +21,8 @@ use std::sync::Wait;
 use std::thread;
 use std::thread::Threads;
 
-/// A desk that has served a worker's lines, the session's output, and its refusal if it was cut off.
+/// A desk that has served a worker's lines, the output of this session, and the refusal with which it was cut off, or
+/// `None`.
 #[derive(Drop)]
 struct EndedSession<D> {
     desk: D,
@@ -36,15 +37,16 @@ struct EndedBatch<J: Naming> {
     outputs: Vec<Vec<u8>>,
 }
 
-/// Answers the lines of an input over a new table. Each line that isn't blank is a number, one space and a statement
-/// for the worker with that number, modulo the number of workers. Each worker serves its lines as a session, in
-/// parallel with the others. Then `writer` gets, for each worker `w`, the line `worker w` and the output of its
-/// session, and finally the totals. The workers are gathered by counts, and with an audit also by receipts, which
-/// take memory for each command until then. Refused, in this order: as `UnnamedTable::open` is; with `ReadFault` if
-/// the reader fails or has more than `MOST_INPUT_BYTES`; with `BadStatement` if a line has no number; as the first
-/// session that is cut off, by worker number; as `gather` is; with `WriteFault` if the writer fails. Refused with
-/// `OutOfMemory` at any point if no memory is found for the batch's own buffers or a thread can't be started.
-/// Nothing is written before the workers are gathered.
+/// Opens a table with these splits and limits, `workers` workers and, if `is_audited`, an audit, and answers the lines
+/// of an input over it. Each line that isn't blank is a number, one space and a statement for the worker with that
+/// number, modulo the number of workers. Each worker serves its lines as a session, in parallel with the others. Then
+/// `writer` gets, for each worker `w`, the line `worker w` and the output of its session, and finally the totals. The
+/// workers are gathered by counts, and with an audit also by receipts, which take memory for each command until the
+/// workers are gathered. Refused, in this order: as `UnnamedTable::open` is; with `ReadFault` if the reader fails or
+/// has more than `MOST_INPUT_BYTES`; with `BadStatement` if a line has no number; as the first session that is cut
+/// off, by worker number; as `gather` is; with `WriteFault` if the writer fails. Refused with `OutOfMemory` at any
+/// point if no memory is found for the batch's own buffers or a thread can't be started. Nothing is written before the
+/// workers are gathered.
 pub fn run_batch<Rt: Threads + Wait + Sync, G: Gate + Sync, R: Read, W: Write>(
     rt: &Rt,
     alloc: Global,
@@ -61,8 +63,8 @@ pub fn run_batch<Rt: Threads + Wait + Sync, G: Gate + Sync, R: Read, W: Write>(
     run_named::<Rt, G, R, W, Brand>(rt, alloc, table, policy, gate, reader, writer)
 }
 
-/// Opens the table under the name `J`, which matters only to proofs, and answers the lines of an input over it.
-/// Refused as `run_batch` is, after the table's opening.
+/// Opens the table under the name `J`, which matters only to proofs, answers the lines of an input over it, and writes
+/// the outputs and the totals. Refused as `run_batch` is, but not for the opening of the table.
 fn run_named<Rt: Threads + Wait + Sync, G: Gate + Sync, R: Read, W: Write, J: Naming + Send + Sync>(
     rt: &Rt,
     alloc: Global,
@@ -85,7 +87,8 @@ fn run_named<Rt: Threads + Wait + Sync, G: Gate + Sync, R: Read, W: Write, J: Na
     }
 }
 
-/// Reads an input, and lets the workers serve it. Refused as `run_batch` is, up to the first session that is cut off.
+/// Reads an input, divides its lines among the workers, and serves each worker's lines as a session on a thread of its
+/// own. Refused as `run_batch` is, up to the first session that is cut off.
 fn serve_input<Rt: Threads + Wait + Sync, G: Gate + Sync, R: Read, J: Naming + Send + Sync>(
     rt: &Rt,
     alloc: Global,
@@ -121,8 +124,8 @@ fn desks_of<'a, Rt: Wait, G: Gate, J: Naming>(
     Ok(desks)
 }
 
-/// Serves each share of the lines as a session, at a desk and on a thread of its own. Refused with `OutOfMemory`,
-/// once all threads have ended, if one couldn't be started or no memory is found.
+/// Serves each share of the lines as a session with this policy, at the desk with the same index and on a thread of
+/// its own. Refused with `OutOfMemory`, once all threads have ended, if one couldn't be started or no memory is found.
 fn serve_all<Rt: Threads + Wait, D: Desk + Send + Drop>(
     rt: &Rt,
     alloc: Global,
@@ -148,8 +151,8 @@ fn serve_all<Rt: Threads + Wait, D: Desk + Send + Drop>(
     all.ok_or(Refusal::OutOfMemory)
 }
 
-/// Serves a worker's lines at its desk. The output is in memory, so a write fails only if no memory is found, and
-/// then the fault is `OutOfMemory`.
+/// Serves the lines of one worker, `share`, at its desk, with this policy. The output is in memory, so a write fails
+/// only if no memory is found, and then the fault is `OutOfMemory`.
 fn serve_share<D: Desk + Drop>(
     alloc: Global,
     desk: D,
@@ -180,8 +183,8 @@ fn serve_share<D: Desk + Drop>(
     }
 }
 
-/// The workers and their outputs. Refused as the first session, by worker number, that was cut off, and with
-/// `OutOfMemory` if no memory is found.
+/// Collects the workers and the outputs of their sessions, by worker number. Refused as the first session that was cut
+/// off, and with `OutOfMemory` if no memory is found.
 fn ended_batch_of<Rt: Wait, G: Gate, J: Naming>(
     alloc: Global,
     served: Vec<EndedSession<WorkerDesk<'_, Rt, G, J>>>,

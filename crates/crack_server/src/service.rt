@@ -57,8 +57,8 @@ pub fn run_service<
     }
 }
 
-/// Lets each worker serve connections at a desk of its own, and returns the workers. Refused as `serve_connections`
-/// is, or with `OutOfMemory` if no memory is found for the list of desks.
+/// Lets each worker serve connections at a desk of its own until the server ends, and returns the workers. Refused as
+/// `serve_connections` is, or with `OutOfMemory` if no memory is found for the list of desks.
 fn serve_workers<
     Rt: Threads + Wait + Net + Sync,
     G: Gate + Sync,

@@ -12,7 +12,8 @@ use crack_witness::{Naming, Worker};
 use std::alloc::Global;
 use std::io::Write;
 
-/// The totals of a table and its workers: commands accepted, rows inserted, rows deleted, and rows held.
+/// The totals of a table and its workers: how many commands were accepted, how many rows were inserted, how many were
+/// deleted, and how many rows the table holds.
 #[derive(Clone, Copy, Drop)]
 pub(crate) struct TableTotals {
     accepted: u64,
@@ -41,7 +42,8 @@ pub(crate) fn totals_of<J: Naming>(
     Ok(totals)
 }
 
-/// Gathers the workers of a table, and drops what a refusal hands back. Refused as `gather` is.
+/// Gathers the workers of a table. Refused as `gather` is; then the table and the workers that it hands back are
+/// dropped.
 fn gathered<J: Naming>(
     alloc: Global,
     table: Table<J>,

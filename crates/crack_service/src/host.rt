@@ -56,6 +56,7 @@ pub enum Notice {
 }
 
 impl Display for Notice {
+    /// Writes the event as a line, without the line feed. Fails if the writer fails.
     fn fmt<W: Write>(&self, f: &mut Formatter<W>) -> fmt::Result {
         match *self {
             Notice::Listening { port } => write!(f, "listening on 127.0.0.1:{port}"),
@@ -107,7 +108,7 @@ impl Display for Notice {
     }
 }
 
-/// Why a session was cut off, in words.
+/// Why a session was cut off with this refusal and this cause, in words.
 fn words_of(refusal: Refusal, cause: Cause) -> &'static str {
     match (refusal, cause) {
         (Refusal::ReadFault, Cause::Fault) => "the connection was closed or failed at a read",
@@ -130,13 +131,13 @@ pub trait Host {
     /// Waits for a moment, after a failed system call that is to be repeated.
     fn pause(&self);
 
-    /// The time since some moment, in milliseconds. A host without a clock always returns the same time, so nothing
-    /// ever waits too long.
+    /// The time in milliseconds since a moment that is the same for all calls. A host without a clock always returns
+    /// the same time, so nothing ever waits too long.
     fn millis(&self) -> u64 {
         0
     }
 
-    /// The time since the same moment, in microseconds.
+    /// The time in microseconds since the moment from which `millis` counts.
     fn micros(&self) -> u64 {
         self.millis().saturating_mul(1000)
     }
@@ -147,7 +148,9 @@ pub trait Host {
 pub struct Alone;
 
 impl Host for Alone {
+    /// Does nothing.
     fn note(&self, _notice: Notice) {}
 
+    /// Does nothing.
     fn pause(&self) {}
 }

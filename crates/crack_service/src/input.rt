@@ -8,8 +8,8 @@ use memchr::memchr;
 use std::alloc::{AllocError, Global};
 use std::io::Read;
 
-/// Reads the whole input. Refused with `ReadFault` if the reader fails or has more than `MOST_INPUT_BYTES`, and with
-/// `OutOfMemory` if no memory is found.
+/// Reads the whole input: O(bytes). Refused with `ReadFault` if the reader fails or has more than `MOST_INPUT_BYTES`,
+/// and with `OutOfMemory` if no memory is found.
 pub fn read_input<R: Read>(alloc: Global, reader: &mut R) -> Result<Vec<u8>, Refusal> {
     let mut bytes = Vec::new(alloc);
     let mut watched = Watched::new(reader);
@@ -23,9 +23,10 @@ pub fn read_input<R: Read>(alloc: Global, reader: &mut R) -> Result<Vec<u8>, Ref
     }
 }
 
-/// Divides an input into the statements of each worker, in order, each with a line feed. The number before a
-/// statement, modulo the number of workers, names its worker; blank lines are skipped. Refused with `BadStatement`
-/// if a line has no number, and with `OutOfMemory` if no memory is found.
+/// Divides an input into a list of statements for each worker, in order, each statement with a line feed. A line is a
+/// number, a space and a statement; the number modulo the number of workers is the number of the worker that gets the
+/// statement. Blank lines are skipped. Refused with `BadStatement` if a line that isn't blank doesn't begin with a
+/// number of 32 bits and a space, and with `OutOfMemory` if no memory is found. O(bytes + workers).
 pub fn divide(alloc: Global, input: &[u8], workers: usize) -> Result<Vec<Vec<u8>>, Refusal>
     requires { 0 < workers }
 {
@@ -52,7 +53,8 @@ fn empty_shares(alloc: Global, workers: usize) -> Result<Vec<Vec<u8>>, AllocErro
     Ok(shares)
 }
 
-/// The first line, without its line feed, and the bytes after the line feed.
+/// The first line, without its line feed, and the bytes after the line feed. Without a line feed all bytes are the
+/// first line, and none are after it.
 fn first_line(bytes: &[u8]) -> (&[u8], &[u8])
     requires { 0 < length bytes.now }
     ensures { length result.1.now < length bytes.now }
@@ -71,7 +73,10 @@ fn is_blank(line: &[u8]) -> bool {
         .all(|byte| *byte == b' ')
 }
 
-/// Adds a line's statement to the share of the worker that its number names. Refused as `divide` is.
+/// Appends the statement of a line, which follows the line's number and a space, and a line feed to the share of one
+/// worker: the line's number modulo the number of shares. Refused with `BadStatement` if the line doesn't begin with
+/// a number of 32 bits and a space; then nothing has changed. Refused with `OutOfMemory` if no memory is found; then
+/// the share may have the statement without the line feed.
 fn deal(shares: &mut Vec<Vec<u8>>, line: &[u8]) -> Result<(), Refusal>
     requires { 0 < vec_len shares.old }
     ensures { vec_len shares.new ≡ vec_len shares.old }
@@ -86,8 +91,8 @@ fn deal(shares: &mut Vec<Vec<u8>>, line: &[u8]) -> Result<(), Refusal>
     Ok(())
 }
 
-/// The number at the beginning of a line, and the bytes after it and one space. `None` if a line has no number of 32
-/// bits there.
+/// The number at the beginning of a line, and the bytes after the space that follows it. `None` if the line doesn't
+/// begin with a number of 32 bits and a space.
 fn numbered(line: &[u8]) -> Option<(u32, &[u8])> {
     let space = memchr(b' ', line)?;
     let number = read_number_up_to(u32::MAX, &line[..space])?;

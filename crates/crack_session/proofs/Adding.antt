@@ -39,19 +39,19 @@ never_refused [] k e less is = absurd (omega (arith, less))
 never_refused (t ∷ ts) zero e less is = absurd is
 never_refused (t ∷ ts) (suc k) e less is = never_refused ts k e (omega (arith, less)) is
 
--- The partitions before one have told their numbers, in turn, and these are added.
-pub record HaveTold {D : Type 0} (tables : D → Option (List PlainView)) (leads : D → Call → D → Type 0) (desk : D) (part : ℕ) (sum : Statistics) : Type 0 where
+-- The partitions before one have reported their numbers, in turn, and these are added.
+pub record HaveReported {D : Type 0} (tables : D → Option (List PlainView)) (leads : D → Call → D → Type 0) (desk : D) (part : ℕ) (sum : Statistics) : Type 0 where
   pub each : List Statistics
   pub sum_is : sum ≡ added_up no_statistics each
   pub many : length each ≡ part
   pub were : Calls leads desk (measured_from 0 each) desk
   pub right : (known : List PlainView) → tables desk ≡ Some known → AreNumbersOfEach (take part known) each
 
-pub HaveTold-none : {D : Type 0} (tables : D → Option (List PlainView)) (leads : D → Call → D → Type 0) (desk : D) (sum : Statistics) → sum ≡ no_statistics → HaveTold tables leads desk 0 sum
-HaveTold-none tables leads desk sum none = record { each = []; sum_is = none; many = refl; were = refl; right = λ known e. tt }
+pub HaveReported-none : {D : Type 0} (tables : D → Option (List PlainView)) (leads : D → Call → D → Type 0) (desk : D) (sum : Statistics) → sum ≡ no_statistics → HaveReported tables leads desk 0 sum
+HaveReported-none tables leads desk sum none = record { each = []; sum_is = none; many = refl; were = refl; right = λ known e. tt }
 
-pub HaveTold-more : {D : Type 0} (tables : D → Option (List PlainView)) (leads : D → Call → D → Type 0) (desk : D) (part : ℕ) (sum one next : Statistics) → HaveTold tables leads desk part sum → next ≡ together sum one → ((known : List PlainView) → tables desk ≡ Some known → IsStatisticsOutcome (slice_get known part) (Ok one)) → leads desk (Measured part (Ok one)) desk → HaveTold tables leads desk (part + 1) next
-HaveTold-more {D} tables leads desk part sum one next told next_is outcome led =
+pub HaveReported-more : {D : Type 0} (tables : D → Option (List PlainView)) (leads : D → Call → D → Type 0) (desk : D) (part : ℕ) (sum one next : Statistics) → HaveReported tables leads desk part sum → next ≡ together sum one → ((known : List PlainView) → tables desk ≡ Some known → IsStatisticsOutcome (slice_get known part) (Ok one)) → leads desk (Measured part (Ok one)) desk → HaveReported tables leads desk (part + 1) next
+HaveReported-more {D} tables leads desk part sum one next told next_is outcome led =
     let next_part : suc part ≡ part + 1 = omega arith in
     let at : part ≡ 0 + length told.each = let many = told.many in omega (arith, many) in
     record {

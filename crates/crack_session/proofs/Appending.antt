@@ -16,6 +16,6 @@ next_part (b ∷ out) (c ∷ out') left left' same few =
     (more.0, ap (λ z. z ∷ out') firsts ∙ ap (λ t. b ∷ t) more.1, more.2)
 
 -- a partition's reply is told as such
-pub reply_told : (part : ℕ) (reply : Reply) → reply_text part reply ≡ answer_text (Replied part reply)
+pub reply_output : (part : ℕ) (reply : Reply) → reply_text part reply ≡ answer_text (Replied part reply)
 unfolding answer_text
-reply_told part reply = refl
+reply_output part reply = refl

@@ -17,7 +17,7 @@ use Rattle.crack_core.specs.Steps.{Bounds, IsOutcomeAt, tables_after}
 use Rattle.crack_session.specs.Answers.{QueriesInTurn, AsksParts, answer_from}
 use Rattle.crack_session.specs.Calls.{Call, Asked, Calls, AreSeveralAsked}
 use Rattle.crack_session.specs.Queries.{joint_answer}
-use Rattle.crack_session.specs.Telling.{AsksDesk, AsksSeveral, AsksOnce}
+use Rattle.crack_session.specs.AskingDesks.{AsksDesk, AsksSeveral, AsksOnce}
 use Rattle.crack_session.proofs.Calling.{Calls-push}
 
 -- the desk that something lends, under this name, is asked in turn

@@ -17,7 +17,7 @@ use Rattle.crack_session.specs.Input.{has_feed}
 use Rattle.crack_session.specs.Lines.{cut_line}
 use Rattle.crack_session.specs.Readings.{reading_of, statements, until_last, is_last}
 use Rattle.crack_session.specs.Sessions.{first_short, whole_lines}
-use Rattle.crack_session.specs.Telling.{of_option}
+use Rattle.crack_session.specs.AskingDesks.{of_option}
 use Rattle.crack_session.proofs.Pieces.{fed-append, meaning, not_last_noted, last_noted, none_finished}
 use Rattle.crack_session.proofs.Whole.{statements_fed, no_meaning}
 

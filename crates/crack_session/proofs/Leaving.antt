@@ -86,7 +86,7 @@ module _ {D : Type 0} (bounds : D → Bounds) (splits : D → List Bound) (table
         let same : fed s0.begun first ≡ readings = from_none ∙ sym is in
         record {
           made = subst (λ (rs : List Reading). AreAnswersOf leads (splits d0) s0.progress.policy d0 d rs f.feeds.answered.answers) same f.feeds.answered.made;
-          told = λ known e. subst (λ (rs : List Reading). (next : List PlainView) × AreAnswers (bounds d0) (splits d0) known rs f.feeds.answered.answers next × (tables d ≡ Some next)) same (f.feeds.answered.told known e);
+          if_known = λ known e. subst (λ (rs : List Reading). (next : List PlainView) × AreAnswers (bounds d0) (splits d0) known rs f.feeds.answered.answers next × (tables d ≡ Some next)) same (f.feeds.answered.if_known known e);
         }
 
     -- the statements answered are the first of all

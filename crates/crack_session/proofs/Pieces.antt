@@ -20,7 +20,7 @@ use Rattle.crack_session.specs.Input.{has_feed}
 use Rattle.crack_session.specs.Lines.{cut_line}
 use Rattle.crack_session.specs.Readings.{reading_of, until_last, is_last}
 use Rattle.crack_session.specs.Sessions.{AreAnswers}
-use Rattle.crack_session.specs.Telling.{AsksDesk, of_option}
+use Rattle.crack_session.specs.AskingDesks.{AsksDesk, of_option}
 use Rattle.crack_session.specs.Feeding.{finished_lines, unfinished, fed, progress_after, all_noted, ending_after, ended_by_any, SessionState, IsLeftOf, AnswersAll, Feeds}
 use Rattle.crack_session.proofs.Appending.{next_part}
 use Rattle.crack_session.proofs.Calling.{Calls-then}
@@ -183,9 +183,9 @@ module _ {D : Type 0} (bounds : D → Bounds) (splits : D → List Bound) (table
       record {
         answers = a.answers ++ b.answers;
         made = (a.made.0 ++ b.made.0, Calls-then leads d0 a.made.0 d1 b.made.0 d2 a.made.1 b.made.1, AreMadeOf-then (splits d0) s0.progress rs a.answers a.made.0 qs b.answers b.made.0 a.made.2 more);
-        told = λ known e.
-            let first = a.told known e in
-            let second = b.told first.0 first.2 in
+        if_known = λ known e.
+            let first = a.if_known known e in
+            let second = b.if_known first.0 first.2 in
             let here = subst (λ (sp : List Bound). AreAnswers (bounds d0) sp first.0 qs b.answers second.0) a.splits_are (subst (λ (bd : Bounds). AreAnswers bd (splits d1) first.0 qs b.answers second.0) a.bounds_are second.1) in
             (second.0, AreAnswers-then (bounds d0) (splits d0) known rs a.answers first.0 qs b.answers second.0 first.1 here, second.2);
         bounds_are = b.bounds_are ∙ a.bounds_are;
@@ -221,7 +221,7 @@ module _ {D : Type 0} (bounds : D → Bounds) (splits : D → List Bound) (table
   AnswersAll-none s d o = record {
     answers = [];
     made = ([], refl, refl);
-    told = λ known e. (known, refl, e);
+    if_known = λ known e. (known, refl, e);
     bounds_are = refl;
     splits_are = refl;
     progress_is = refl;
@@ -244,7 +244,7 @@ module _ {D : Type 0} (bounds : D → Bounds) (splits : D → List Bound) (table
         answered = record {
           answers = w.answers;
           made = w.made;
-          told = w.told;
+          if_known = w.if_known;
           bounds_are = w.bounds_are;
           splits_are = w.splits_are;
           progress_is = ap (λ (s : SessionState). s.progress) same ∙ w.progress_is;
@@ -266,7 +266,7 @@ module _ {D : Type 0} (bounds : D → Bounds) (splits : D → List Bound) (table
       record {
         answers = a ∷ [];
         made = (asks.calls, asks.were, (asks.calls, [], sym (append-nil asks.calls), asks.made, refl));
-        told = λ known is. let next = asks.is known is in (next.0, (next.0, next.1, refl), next.2);
+        if_known = λ known is. let next = asks.is known is in (next.0, (next.0, next.1, refl), next.2);
         bounds_are = asks.bounds_are;
         splits_are = asks.splits_are;
         progress_is = counted;
@@ -283,7 +283,7 @@ module _ {D : Type 0} (bounds : D → Bounds) (splits : D → List Bound) (table
       record {
         answers = a.answers;
         made = subst (λ (q : SessionProgress). AreAnswersOf leads (splits d) q.policy d e rs a.answers) progress a.made;
-        told = a.told;
+        if_known = a.if_known;
         bounds_are = a.bounds_are;
         splits_are = a.splits_are;
         progress_is = a.progress_is ∙ ap (λ (q : SessionProgress). all_noted q a.answers) progress;
@@ -313,7 +313,7 @@ module _ {D : Type 0} (bounds : D → Bounds) (splits : D → List Bound) (table
         answered = rw nothing record {
           answers = [];
           made = ([], refl, refl);
-          told = λ known e. (known, refl, e);
+          if_known = λ known e. (known, refl, e);
           bounds_are = refl;
           splits_are = refl;
           progress_is = ap (λ (s : SessionState). s.progress) same;

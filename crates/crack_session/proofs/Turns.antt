@@ -54,7 +54,7 @@ module _ {D : Type 0} (bounds : D → Bounds) (splits : D → List Bound) (table
         answered = record {
           answers = was.answers;
           made = was.made;
-          told = was.told;
+          if_known = was.if_known;
           bounds_are = was.bounds_are;
           splits_are = was.splits_are;
           progress_is = was.progress_is;

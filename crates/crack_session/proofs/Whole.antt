@@ -3,7 +3,7 @@ use Rattle.std.proofs.Common.{◌≡◌, ℕ, ◌<◌, true, false, None, List, 
 use Rattle.std.proofs.lemmas.Bool.{cases_Bool, eqb-true}
 use Rattle.std.proofs.lemmas.List.Elements.{filter_map-append}
 use Rattle.std.specs.List.{filter_map}
-use Rattle.crack_session.specs.Telling.{of_option}
+use Rattle.crack_session.specs.AskingDesks.{of_option}
 use Rattle.crack_session.specs.Feeding.{finished_lines, unfinished, fed}
 use Rattle.crack_session.specs.Input.{has_feed, first_line, after_line}
 use Rattle.crack_session.specs.Lines.{lines, cut_line}

@@ -1,4 +1,5 @@
--- What a session answers to a statement, and the text of the answer.
+-- What a session answers to a statement, and the text of the answer. `bounds` is what the table's limits mean for a
+-- partition, `splits` are the table's splits, `tables` and `new` the plain tables of all partitions before and after.
 use Rattle.std.specs.Fmt.{signed_decimal}
 use Rattle.std.specs.List.{flat_map, list_any}
 use Rattle.std.specs.Prelude.{◌≡◌, ℕ, Bool, false, List, [], ◌∷◌, ◌++◌, ◌⊎◌, Option, None, Result, Ok, Err, codes, decimal, slice_get, ◌==◌}
@@ -33,83 +34,85 @@ use Rattle.crack_session.specs.Queries.{joint_answer}
 use Rattle.crack_core.specs.Routes.{keys_of_part, route, parts_of}
 use Rattle.crack_core.specs.Steps.{Bounds, IsOutcomeAt, IsLayoutOutcome, IsStatisticsOutcome, IsCheckpointOutcome, tables_after, changed_at}
 
--- the answer made of an outcome, or its refusal
+-- the answer to an outcome: what the function makes of its value, or `Refused` with its refusal
 abbrev pub answer_from : {X : Type 0} → (X → Answer) → Result X Refusal → Answer
 answer_from answer (Ok x) = answer x
 answer_from answer (Err e) = Refused e
 
--- One partition executes a command: the answer is made of the outcome, and `new` are the partitions afterwards.
+-- The partition `part` executes a command, as `IsOutcomeAt` and `tables_after` say: `answer` is its reply or refusal.
 pub record IsAsked (bounds : Bounds) (splits : List Bound) (tables : List PlainView) (part : ℕ) (command : Command) (answer : Answer) (new : List PlainView) : Type 0 where
   pub outcome : Result Reply Refusal
   pub comes_out : IsOutcomeAt bounds splits tables part command outcome
   pub answer_is : answer ≡ answer_from (Replied part) outcome
   pub new_is : new ≡ tables_after bounds tables part command outcome
 
--- several partitions execute a query in turn, each over its part of the range: their replies, or the first refusal,
--- and the partitions afterwards
+-- the partitions in `parts` execute a query in turn, each over the range beside its number: `outcome` has their
+-- replies, or the first refusal, after which no partition is asked
 abbrev pub QueriesInTurn : Bounds → List Bound → Query → List PlainView → List (ℕ × Range) → Result (List PartReply) Refusal → List PlainView → Type 0
 QueriesInTurn bounds splits query tables parts outcome new = InTurn (λ (part : ℕ × Range) (reply : Result Reply Refusal) (before after : List PlainView). IsOutcomeAt bounds splits before part.0 (asking query part.1) reply × (after ≡ tables_after bounds before part.0 (asking query part.1) reply)) tables parts outcome new
 
--- Several partitions execute a query in turn: the answer is their joint reply or the first refusal, and `new` are
--- the partitions afterwards.
+-- The partitions in `parts` execute a query in turn (`QueriesInTurn`): `answer` is their `joint_answer`, or the first
+-- refusal.
 pub record IsJoined (bounds : Bounds) (splits : List Bound) (tables : List PlainView) (query : Query) (parts : List (ℕ × Range)) (answer : Answer) (new : List PlainView) : Type 0 where
   pub outcome : Result (List PartReply) Refusal
   pub asked : QueriesInTurn bounds splits query tables parts outcome new
   pub answer_is : answer ≡ answer_from (joint_answer query) outcome
 
--- These parts of a range are queried: a single one like any command, and several in turn, or none of them if no
--- memory is found for their replies.
+-- A query is asked of the partitions in the list, each over the range beside its number. A single one executes it as
+-- one command (`IsAsked`). Several execute it in turn (`IsJoined`); or, if no memory is found for their replies, none
+-- does, the answer is `OutOfMemory`, and the tables are unchanged.
 abbrev pub AsksParts : Bounds → List Bound → List PlainView → Query → List (ℕ × Range) → Answer → List PlainView → Type 0
 AsksParts bounds splits tables query (part ∷ []) answer new = IsAsked bounds splits tables part.0 (asking query part.1) answer new
 AsksParts bounds splits tables query parts answer new = IsJoined bounds splits tables query parts answer new ⊎ ((answer ≡ Refused OutOfMemory) × (new ≡ tables))
 
--- The layout of one partition is requested: the answer is any layout that it may have, or a refusal.
+-- The layout of partition `part` is requested: the answer is a layout of its keys with as many rows as its plain table
+-- has, or a refusal (`IsLayoutOutcome`).
 pub record IsLaidOut (splits : List Bound) (tables : List PlainView) (part : ℕ) (answer : Answer) : Type 0 where
   pub outcome : Result PartLayout Refusal
   pub comes_out : IsLayoutOutcome (keys_of_part splits part) (slice_get tables part) outcome
   pub answer_is : answer ≡ answer_from (Laid part) outcome
 
--- The statistics of one partition are requested: the answer has statistics that are right for its plain rows, or is
--- a refusal.
+-- The statistics of the partition `part` are requested: `answer` has statistics with the numbers of rows and of
+-- commands of its plain table, or is the refusal `NoSuchPartition`.
 pub record IsWatched (tables : List PlainView) (part : ℕ) (answer : Answer) : Type 0 where
   pub outcome : Result Statistics Refusal
   pub comes_out : IsStatisticsOutcome (slice_get tables part) outcome
   pub answer_is : answer ≡ answer_from (λ statistics. Numbers statistics None) outcome
 
--- each of the statistics is right for the partition at the same place
+-- both lists are equally long, and the statistics at a place have the numbers of rows and commands of its table
 abbrev pub AreNumbersOfEach : List PlainView → List Statistics → Type 0
 AreNumbersOfEach [] [] = Unit {0}
 AreNumbersOfEach (table ∷ tables) (one ∷ each) = AreNumbersOf table one × AreNumbersOfEach tables each
 AreNumbersOfEach tables each = ⊥
 
--- a sum of statistics, with those of each partition added
+-- the statistics `sum`, with each of the listed statistics added
 abbrev pub added_up : Statistics → List Statistics → Statistics
 added_up sum [] = sum
 added_up sum (one ∷ each) = added_up (together sum one) each
 
--- The statistics of all partitions are requested: the answer has the sum of statistics that are right for each
--- partition.
+-- The statistics of all partitions are requested: `answer` has the sum of one statistics for each partition, as
+-- `AreNumbersOfEach` requires them, and any `Traffic` of a server, or `None`.
 pub record AreWatched (tables : List PlainView) (answer : Answer) : Type 0 where
   pub each : List Statistics
   pub right : AreNumbersOfEach tables each
   pub traffic : Option Traffic
   pub answer_is : answer ≡ Numbers (added_up no_statistics each) traffic
 
--- A checkpoint of one partition is made: the answer has the number of commands accepted since the previous one, or
--- is a refusal, and `new` are the partitions afterwards.
+-- A checkpoint of the partition `part` is made: `answer` has the number of commands that it accepted since its previous
+-- one, and this number is 0 in the plain tables `new`; or `answer` is a refusal, and `new` are the old tables.
 pub record IsCheckpointAnswer (tables : List PlainView) (part : ℕ) (answer : Answer) (new : List PlainView) : Type 0 where
   pub outcome : Result ℕ Refusal
   pub comes_out : IsCheckpointOutcome (slice_get tables part) outcome
   pub answer_is : answer ≡ answer_from CheckpointMade outcome
   pub new_is : new ≡ changed_at checkpointed_table tables part outcome
 
--- the last answer of a session that a line ends: a line of an HTTP request is refused with `BadStatement`
+-- the answer to a line that ends a session: `Bye` to `quit`, and the refusal `BadStatement` to a line of HTTP
 abbrev pub farewell : ClosingLine → Answer
 farewell Quit = Bye
 farewell Http = Refused BadStatement
 
--- an answer to a statement, and the partitions afterwards: an insert goes to the partition of its key, a delete or
--- an update to the partition in its row number, and a query to each partition that holds a part of the range
+-- `answer` is an answer to a statement: an insert goes to the partition of its key, a delete or update to that in its
+-- row number, and a query to each that holds a part of its range; no other statement changes rows
 abbrev pub IsAnswerTo : Bounds → List Bound → List PlainView → Statement → Answer → List PlainView → Type 0
 IsAnswerTo bounds splits tables (Insert key payload) answer new = IsAsked bounds splits tables (route splits key.0) (AskInsert key payload) answer new
 IsAnswerTo bounds splits tables (Delete row) answer new = IsAsked bounds splits tables row.part (AskDelete row.serial) answer new
@@ -125,7 +128,8 @@ IsAnswerTo bounds splits tables (Policy policy) answer new = (answer ≡ Set pol
 IsAnswerTo bounds splits tables Ping answer new = (answer ≡ Pong) × (new ≡ tables)
 IsAnswerTo bounds splits tables (End ending) answer new = (answer ≡ farewell ending) × (new ≡ tables)
 
--- an answer to a parsed line, and the partitions afterwards
+-- `answer` is an answer to a parsed line: if the line was refused, it is this refusal, and no table changes; else it
+-- is an answer to the statement (`IsAnswerTo`)
 abbrev pub IsAnswer : Bounds → List Bound → List PlainView → Reading → Answer → List PlainView → Type 0
 IsAnswer bounds splits tables (Err e) answer new = (answer ≡ Refused e) × (new ≡ tables)
 IsAnswer bounds splits tables (Ok statement) answer new = IsAnswerTo bounds splits tables statement answer new

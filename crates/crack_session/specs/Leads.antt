@@ -1,4 +1,4 @@
--- The effects of the calls of a core and of a plain table.
+-- The effects of the calls of a core and of a plain table. `bounds` and `splits` are as in `Answers`.
 use Rattle.std.specs.Prelude.{◌≡◌, ◌≢◌, ℕ, List, None, Some, OnOk, OnErr, IfOk, slice_get, if◌then◌else◌}
 use Rattle.crack_row.specs.declared.Bound.{Bound}
 use Rattle.crack_plain.specs.Plain.{PlainView, checkpointed_table}
@@ -10,7 +10,9 @@ use Rattle.crack_core.specs.Steps.{Bounds, bounds_from, IsOutcome, IsLayoutOutco
 use Rattle.crack_core.specs.Jobs.{AtPart, IsCheckpointedAt}
 use Rattle.crack_session.specs.Calls.{Call, Asked, Checkpointed, Looked, Measured, Surveyed}
 
--- the outcome of a desk's call, if the rows of its partitions are known, and their rows afterwards
+-- The outcome of a call is one that `IsOutcome` allows, or `IsCheckpointOutcome` and so on, for the plain tables
+-- `old`; traffic is `None`. The tables are then `new`: only an answered command or checkpoint changes one, its
+-- partition's.
 abbrev pub rows_lead : Bounds → List Bound → List PlainView → Call → List PlainView → Type 0
 rows_lead bounds splits old (Asked part command policy outcome) new =
     IsOutcome bounds (keys_of_part splits part) (slice_get old part) command outcome
@@ -20,9 +22,9 @@ rows_lead bounds splits old (Looked part outcome) new = IsLayoutOutcome (keys_of
 rows_lead bounds splits old (Measured part outcome) new = IsStatisticsOutcome (slice_get old part) outcome × (new ≡ old)
 rows_lead bounds splits old (Surveyed traffic) new = (traffic ≡ None) × (new ≡ old)
 
--- what a call does to the stores of a core's partitions: a command changes only the store of its partition, as its
--- policy requires; a checkpoint leaves all stores as they are; a layout and statistics are those of the partition
--- that they name, and change nothing
+-- what a call does to the stores of a core's partitions, from `old` to `new`: a command changes only the store of its
+-- partition, as `Serves` says if it is answered, else as `Spares` says; a checkpoint leaves all stores as they are; a
+-- layout and statistics are those of the partition that they name, and change nothing
 abbrev pub stores_lead : List Part → Call → List Part → Type 0
 stores_lead old (Asked part command policy outcome) new =
     ((k : ℕ) → k ≢ part → slice_get new k ≡ slice_get old k)
@@ -32,6 +34,6 @@ stores_lead old (Looked part outcome) new = IfOk outcome (λ layout. (p : Part) 
 stores_lead old (Measured part outcome) new = (outcome ≡ expected_statistics (slice_get old part)) × (new ≡ old)
 stores_lead old (Surveyed traffic) new = new ≡ old
 
--- the effect of a call of a core that serves as a desk: on its rows, and on its stores
+-- the effect of a call of a core that serves as a desk: on its rows (`rows_lead`), and on its stores (`stores_lead`)
 abbrev pub core_leads : CoreState → Call → CoreState → Type 0
 core_leads old call new = rows_lead (bounds_from old.limits) old.splits (tables_of old.parts) call (tables_of new.parts) × stores_lead old.parts call new.parts

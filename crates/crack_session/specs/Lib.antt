@@ -9,5 +9,5 @@ pub mod Readings
 pub mod Rounds
 pub mod Serving
 pub mod Sessions
-pub mod Telling
+pub mod AskingDesks
 pub mod Turns

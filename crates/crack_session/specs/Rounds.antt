@@ -12,8 +12,9 @@ use Rattle.crack_session.specs.declared.feeding.Why.TheVariants.{Full}
 use Rattle.crack_session.specs.Calls.{Call}
 use Rattle.crack_session.specs.Feeding.{SessionState, Feeds, StoppedFor}
 
--- A session is fed once, takes `taken` of the bytes and stops for the reason `why`, and the texts are written with
--- this result.
+-- A session in the state `old` is fed once: it takes the first `taken` of the bytes and stops for the reason `why`, in
+-- the state `new`. Then the texts that it appended to an empty output are written, with this result (`Writes`). The
+-- desk and the writer are `desk` and `writer` before, and `desk'` and `writer'` after.
 pub record IsRound {D W : Type 0} (bounds : D → Bounds) (splits : D → List Bound) (tables : D → Option (List PlainView)) (leads : D → Call → D → Type 0) (contents : W → Option (List ℕ)) (old : SessionState) (bytes : List ℕ) (taken : ℕ) (why : Why) (result : Result (Unit {0}) Refusal) (desk desk' : D) (writer writer' : Watched W) (new : SessionState) : Type 0 where
   pub texts : List ℕ
   pub feeds : Feeds bounds splits tables leads old (take taken bytes) desk desk' [] texts new
@@ -27,7 +28,7 @@ abbrev pub has_stopped : Why → Bool
 has_stopped Full = false
 has_stopped _ = true
 
--- The state of a new session.
+-- `s` is the state of a session that has answered nothing and has no unfinished line. Its policy may be any.
 pub record IsNewSession (s : SessionState) : Type 0 where
   pub statements_are : s.progress.statements ≡ 0
   pub short_is : s.progress.first_short ≡ None

@@ -1,4 +1,5 @@
--- The state that `serve` leaves, whatever its devices do.
+-- The state that `serve` leaves, whatever its devices do. `bounds`, `splits`, `tables` and `leads` are those of the
+-- trait `Desk`; `old` and `new` are the desk before and after.
 use Rattle.std.specs.Prelude.{◌≡◌, ℕ, ◌+◌, ◌-◌, ◌^◌, ◌≤◌, ◌⊎◌, min, Bool, true, List, [], ◌++◌, length, map, take, Option, Some, if◌then◌else◌}
 use Rattle.std.specs.List.{concat, list_any}
 use Rattle.std.specs.Io.KnownBytes.{Appends}
@@ -20,14 +21,14 @@ use Rattle.crack_session.specs.Feeding.{IsLeftOf}
 use Rattle.crack_session.specs.Readings.{statements, is_last}
 use Rattle.crack_session.specs.Sessions.{AreAnswers, first_short, whole_lines}
 
--- These statements are answered in order: the answers are made of exactly the calls of the desk, each under the
--- policy then in force. If the rows are known, the answers are right for them.
+-- These lines are answered in order, the first under `policy`: the answers are made of exactly the calls that lead the
+-- desk from `old` to `new`. If its plain tables are known, `AreAnswers` holds for them and the answers.
 pub record AreAllAnswered {D : Type 0} (bounds : D → Bounds) (splits : D → List Bound) (tables : D → Option (List PlainView)) (leads : D → Call → D → Type 0) (policy : Policy) (old new : D) (readings : List Reading) (answers : List Answer) : Type 0 where
   pub made : AreAnswersOf leads (splits old) policy old new readings answers
-  pub told : (known : List PlainView) → tables old ≡ Some known → (next : List PlainView) × AreAnswers (bounds old) (splits old) known readings answers next × (tables new ≡ Some next)
+  pub if_known : (known : List PlainView) → tables old ≡ Some known → (next : List PlainView) × AreAnswers (bounds old) (splits old) known readings answers next × (tables new ≡ Some next)
 
--- A session ended: it answered all statements of the bytes that it read, which are the reader's if those are known,
--- and wrote the texts of the answers.
+-- A session ended, as `end` reports. It answered all statements of some bytes, which are the reader's bytes `known` if
+-- these are known, and appended the texts of the answers to the writer's contents `out`, which became `written`.
 pub record IsServed {D : Type 0} (bounds : D → Bounds) (splits : D → List Bound) (tables : D → Option (List PlainView)) (leads : D → Call → D → Type 0) (policy : Policy) (old new : D) (known out written : Option (List ℕ)) (end : SessionEnd) : Type 0 where
   pub bytes : List ℕ
   pub bytes_are : (all : List ℕ) → known ≡ Some all → bytes ≡ all
@@ -38,10 +39,10 @@ pub record IsServed {D : Type 0} (bounds : D → Bounds) (splits : D → List Bo
   pub short_is : end.first_short ≡ first_short answers
   pub written_is : Appends out written (concat (map answer_text answers))
 
--- A session was cut off: it answered the first statements of some bytes, which are the reader's if those are known.
--- If the reader failed, it answered exactly the statements in the whole lines that were read, and wrote all texts of
--- the answers. If the writer failed, it wrote a prefix of the texts: what is missing is at most what the output
--- holds, and the rest of the last answer's text.
+-- A session was cut off: it answered the first statements of some bytes, which are the reader's bytes `known` if these
+-- are known. With `ReadFault`, it answered exactly the statements in the whole lines that were read, and wrote all
+-- texts of the answers; `left` are the bytes that weren't read. With `WriteFault`, it wrote a prefix of the texts: what
+-- is missing is at most what the output holds, and the rest of the last answer's text.
 pub record IsCutOff {D : Type 0} (bounds : D → Bounds) (splits : D → List Bound) (tables : D → Option (List PlainView)) (leads : D → Call → D → Type 0) (policy : Policy) (old new : D) (known left out written : Option (List ℕ)) (fault : Fault) : Type 0 where
   pub bytes : List ℕ
   pub bytes_are : (all : List ℕ) → known ≡ Some all → bytes ≡ all
@@ -62,9 +63,9 @@ pub record IsCutOff {D : Type 0} (bounds : D → Bounds) (splits : D → List Bo
   pub left_is : IsLeftOf [] answers unwritten
   pub all_sent : fault.refusal ≡ ReadFault → (unsent ≡ []) × (unwritten ≡ [])
 
--- why a session was cut off: its writer failed, its reader failed, or it made `MOST_READS` (1,000,000,000) reads,
--- so that the reader's count of reads went from `reads` to `reads'`; each brought a byte, so that the reader's
--- bytes, if known, are at least as many
+-- a session was cut off with this refusal for a cause: `WriteFault` if its writer failed, or `ReadFault` if its reader
+-- failed or it made `MOST_READS` (1,000,000,000) reads. These took the count of the reader's reads from `reads` to
+-- `reads'`, and each brought a byte, so the reader's bytes, `known`, are at least as many if they are known.
 abbrev pub IsCause : Refusal → Bool → Bool → ℕ → ℕ → Option (List ℕ) → Type 0
 IsCause refusal reader_failed writer_failed reads reads' known = ((refusal ≡ WriteFault) × (writer_failed ≡ true))
     ⊎ ((refusal ≡ ReadFault) × ((reader_failed ≡ true)

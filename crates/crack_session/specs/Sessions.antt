@@ -1,4 +1,4 @@
--- A session as a relation between statements, rows and answers.
+-- A session as a relation between statements, rows and answers. `bounds`, `splits` and `tables` are as in `Answers`.
 use Rattle.std.specs.Prelude.{◌≡◌, ℕ, ◌+◌, List, [], ◌∷◌, Option, None, Some, option_map, ◌==◌, if◌then◌else◌}
 use Rattle.std.specs.List.{list_any}
 use Rattle.crack_row.specs.declared.Bound.{Bound}
@@ -8,18 +8,19 @@ use Rattle.crack_commands.specs.Grammar.{Reading}
 use Rattle.crack_session.specs.Answers.{IsAnswer, is_short_answer}
 use Rattle.crack_core.specs.Steps.{Bounds}
 
--- answers to these statements, one after the other, and the partitions afterwards
+-- `answers` are answers to these parsed lines, one for each and in order; the plain tables are `tables` before the
+-- first, and `new` after the last
 abbrev pub AreAnswers : Bounds → List Bound → List PlainView → List Reading → List Answer → List PlainView → Type 0
 AreAnswers bounds splits tables [] [] new = new ≡ tables
 AreAnswers bounds splits tables (reading ∷ readings) (answer ∷ answers) new = (between : List PlainView) × IsAnswer bounds splits tables reading answer between × AreAnswers bounds splits between readings answers new
 AreAnswers bounds splits tables _ _ new = ⊥
 
--- the number, from 1, of the first answer that is a refusal for lack of room
+-- the number, from 1, of the first answer that is a refusal for lack of room; `None` if none is
 abbrev pub first_short : List Answer → Option ℕ
 first_short [] = None
 first_short (answer ∷ answers) = if is_short_answer answer then Some 1 else option_map (λ k. k + 1) (first_short answers)
 
--- the whole lines: the bytes up to and including the last line feed
+-- the whole lines: the bytes up to and including the last line feed; no bytes if there is no line feed
 abbrev pub whole_lines : List ℕ → List ℕ
 whole_lines [] = []
 whole_lines (b ∷ bs) = if list_any (λ c. c == 10) (b ∷ bs) then b ∷ whole_lines bs else []

@@ -4,7 +4,7 @@ ghost use Rattle.crack_row.specs.declared.layout.Layout.{Layout};
 ghost use Rattle.crack_row.specs.declared.refusal.Refusal.{Refusal};
 ghost use Rattle.crack_core.specs.Asking.{asking};
 ghost use Rattle.crack_core.specs.Routes.{route, parts_of};
-ghost use Rattle.crack_session.specs.Telling.{AsksSeveral, AsksDesk};
+ghost use Rattle.crack_session.specs.AskingDesks.{AsksSeveral, AsksDesk};
 ghost use Rattle.crack_session.specs.Answers.{IsAnswerTo, IsAsked, AsksParts, IsLaidOut};
 ghost use Rattle.crack_session.specs.Answers.{IsCheckpointAnswer, is_short_answer, answer_from, farewell};
 ghost use Rattle.crack_session.specs.Calls.{Checkpointed, Looked, IsOneAsked, AreSeveralAsked};
@@ -20,7 +20,7 @@ use crack_plain::Statistics;
 use crack_row::{Command, Key, KeyRange, Layout, Policy, Refusal, Reply};
 use std::alloc::Global;
 
-/// The answer to a statement, before it is written as text.
+/// The answer to a statement, before its text is written.
 #[derive(Drop)]
 pub enum Answer {
     /// The reply of one partition.
@@ -76,9 +76,10 @@ impl Answer {
     }
 }
 
-/// Executes what a statement requires at the desk, and returns the answer. An insert goes to the partition of its
-/// key, a delete or an update to the partition in its row number, and a count, sum or select to each partition that
-/// holds a part of the range. A refusal is the answer `Refused`.
+/// Executes what a statement requires at the desk, with this policy, and returns the answer. An insert goes to the
+/// partition of its key, a delete or an update to the partition in its row number, and a count, sum or select to each
+/// partition that holds a part of the range. A refusal is the answer `Refused`. Takes no memory but the desk's, except
+/// for a query of several partitions.
 pub fn answer_statement<D: Desk>(
     alloc: Global,
     desk: &mut D,
@@ -119,7 +120,8 @@ pub fn answer_statement<D: Desk>(
     ask_part(desk, policy, part, command)
 }
 
-/// The last answer of a session that a line ends.
+/// The answer to a line that ends a session: `Bye` to `quit`, and the refusal `BadStatement` to a line of an HTTP
+/// request.
 #[inline(always)]
 fn farewell(ending: ClosingLine) -> Answer
     ensures { result ≡ farewell ending }
@@ -130,7 +132,7 @@ fn farewell(ending: ClosingLine) -> Answer
     }
 }
 
-/// The number of the partition that holds a key.
+/// The number of the partition of the desk's table that holds a key. O(log partitions), no memory.
 #[inline(always)]
 pub fn part_with_key<D: Desk>(desk: &D, key: Key) -> u32
     ensures { result ≡ route (D.splits desk.now) key.0 }
@@ -151,7 +153,7 @@ fn ask_part<D: Desk>(desk: &mut D, policy: Policy, part: u32, command: Command) 
 }
 
 /// Executes a query on each partition that holds a part of the range, and answers with the joint reply, or with the
-/// first refusal. Takes no memory but the desk's if there is only one such partition.
+/// first refusal. If only one partition holds a part, takes no memory but the desk's.
 fn ask_range<D: Desk>(
     alloc: Global,
     desk: &mut D,
@@ -180,19 +182,21 @@ struct Lent<'a, D> {
 
 impl<'a, D: Desk> AskPart for Lent<'a, D> {
     ghost use Rattle.std.specs.Prelude.{◌≡◌};
-    ghost use Rattle.crack_session.specs.Telling.{AsksOnce};
+    ghost use Rattle.crack_session.specs.AskingDesks.{AsksOnce};
 
     ghost asks = { λ old part command policy outcome new. (new.desk.ghost_name ≡ old.desk.ghost_name) ×
         AsksOnce ⟦<D as Desk>⟧.bounds ⟦<D as Desk>⟧.splits ⟦<D as Desk>⟧.tables ⟦<D as Desk>⟧.leads part command
         policy outcome old.desk.now new.desk.now };
 
+    /// Executes a command on partition `part` of the desk. Refused as the desk refuses it.
     fn ask_part(&mut self, part: u32, command: Command, policy: Policy) -> Result<Reply, Refusal> {
         self.desk.ask(part, command, policy)
     }
 }
 
-/// Queries several partitions in turn, each over its part of a range, and answers with the joint reply, or with the
-/// first refusal. None is queried if no memory is found for their replies.
+/// Executes a query on several partitions in turn: `parts` has the number of each and its part of the range. Answers
+/// with the joint reply, or with the first refusal. If no memory is found for the replies, answers `OutOfMemory` and
+/// executes nothing.
 fn ask_several<D: Desk>(
     alloc: Global,
     desk: &mut D,
@@ -209,7 +213,7 @@ fn ask_several<D: Desk>(
     ask_lent(alloc, &mut lent, policy, query, parts)
 }
 
-/// Implements `ask_several` for a borrowed desk.
+/// Does what `ask_several` does, at the desk that `lent` borrows.
 fn ask_lent<D: Desk>(
     alloc: Global,
     lent: &mut Lent<'_, D>,

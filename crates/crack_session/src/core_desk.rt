@@ -28,6 +28,7 @@ impl Desk for Core {
 
     ghost leads = { λ c call d. core_leads c call d };
 
+    /// Executes the command, or refuses it, as `Core::step` does.
     #[inline(always)]
     fn ask(&mut self, part: u32, command: Command, policy: Policy) -> Result<Reply, Refusal>
         ensures outcome { IsOutcomeAt (bounds_from self.old.limits) self.old.splits (tables_of self.old.parts) part
@@ -47,6 +48,7 @@ impl Desk for Core {
         })
     }
 
+    /// Makes a checkpoint as `Core::checkpoint` does.
     fn checkpoint(&mut self, part: u32) -> Result<u64, Refusal>
         ensures outcome { IsCheckpointOutcome (slice_get (tables_of self.old.parts) part) result }
         // It takes no memory, so `NoSuchPartition` is the only refusal.
@@ -62,22 +64,27 @@ impl Desk for Core {
         Core::checkpoint(self, part)
     }
 
+    /// The layout of a partition, as `Core::layout` returns it.
     fn layout(&self, part: u32) -> Result<Layout, Refusal> {
         Core::layout(self, part)
     }
 
+    /// The statistics of a partition, as `Core::statistics` returns them.
     fn statistics(&self, part: u32) -> Result<Statistics, Refusal> {
         Core::statistics(self, part)
     }
 
+    /// `None`: a core belongs to no server.
     fn service(&self) -> Option<Traffic> {
         None
     }
 
+    /// The core's splits.
     fn splits(&self) -> &[Bound] {
         Core::splits(self)
     }
 
+    /// How many commands the core accepted.
     fn accepted(&self) -> u64 {
         Core::accepted(self)
     }

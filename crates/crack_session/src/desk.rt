@@ -31,7 +31,8 @@ pub trait Desk {
     /// since, or `None` if they aren't known.
     ghost tables: { Self → Option (List PlainView) };
 
-    /// Why a partition accepts no more commands, how many cells its rows may take, and whether a checkpoint is due.
+    /// What the table's limits mean for a partition: why it accepts no more commands, how many cells its rows may
+    /// take, how many are taken at most when none is free, and whether the next command makes a checkpoint first.
     ghost bounds: { Self → Bounds };
 
     /// The first key of each partition but the first, in rising order.
@@ -43,11 +44,12 @@ pub trait Desk {
     /// The effect of a call with its outcome, as a relation between two states.
     ghost leads: { Self → Call → Self → Type 0 };
 
-    /// Executes a command on one partition. Refused with `NoSuchPartition` if there is no such partition, with
-    /// `KeyOutside` if the command has a key of another partition, with `HistoryFull` if the history is full and no
-    /// checkpoint is due, with `LifeOver` if the partition accepts no more commands, with `NoCell` if no cell is
-    /// free for a row, upkeep frees none and the limit allows no more, and with `OutOfMemory` if no memory is found.
-    /// A refusal leaves rows and histories as they were.
+    /// Executes a command on partition `part`; a read merges pending rows as `policy` says. Refused with
+    /// `NoSuchPartition` if there is no such partition, with `KeyOutside` if the command has a key of another
+    /// partition, with `HistoryFull` if the history is full and upkeep is on request, with `LifeOver` if the partition
+    /// accepts no more commands, and with `OutOfMemory` if no memory is found. Refused with `NoCell` if no cell is
+    /// free for a row, upkeep frees none and the limit allows no more. A worker's desk may also refuse as `Table::ask`
+    /// does. A refusal leaves rows and histories as they were. Costs what the command costs at the partition.
     fn ask(&mut self, part: u32, command: Command, policy: Policy) -> Result<Reply, Refusal>
         // The outcome is the reply of the plain rows, or the refusal that they require. Instead of a reply it may be
         // `OutOfMemory` or `NoCell`.
@@ -64,9 +66,9 @@ pub trait Desk {
         // A single call: this command on this partition under this policy, with this outcome.
         ensures leads { leads self.old (Asked part command policy result) self.new };
 
-    /// Makes a checkpoint of one partition, and returns how many commands it had accepted since its previous one;
-    /// that count restarts at 0. Its rows stay as they are. No history records the checkpoint. Refused with
-    /// `NoSuchPartition` if there is no such partition, and with `OutOfMemory` if no memory is found. A refusal
+    /// Makes a checkpoint of partition `part`, and returns how many commands it had accepted since its previous
+    /// checkpoint; that count restarts at 0. Its rows stay as they are. No history records the checkpoint. Refused
+    /// with `NoSuchPartition` if there is no such partition, and with `OutOfMemory` if no memory is found. A refusal
     /// changes nothing.
     fn checkpoint(&mut self, part: u32) -> Result<u64, Refusal>
         ensures outcome { (known : List PlainView) → tables self.old ≡ Some known →
@@ -80,8 +82,8 @@ pub trait Desk {
         ensures accepted { accepted self.new ≡ accepted self.old }
         ensures leads { leads self.old (Checkpointed part result) self.new };
 
-    /// Returns the layout of one partition. It cracks and merges nothing, and isn't kept in the history. Refused
-    /// with `NoSuchPartition` if there is no such partition, and with `OutOfMemory` if no memory is found.
+    /// Returns the layout of partition `part`. Cracks and merges nothing, and adds nothing to the history. O(pieces).
+    /// Refused with `NoSuchPartition` if there is no such partition, and with `OutOfMemory` if no memory is found.
     fn layout(&self, part: u32) -> Result<Layout, Refusal>
         // The pieces lead from one end of the partition to the other, the numbers fit, and there are as many rows as
         // plain rows.
@@ -89,7 +91,7 @@ pub trait Desk {
             IsLayoutOutcome (keys_of_part (splits self.now) part) (slice_get known part) result }
         ensures leads { leads self.now (Looked part result) self.now };
 
-    /// Returns the statistics of one partition, for monitoring. It cracks and merges nothing, and isn't kept in the
+    /// Returns the statistics of partition `part`, for monitoring. Cracks and merges nothing, and adds nothing to the
     /// history. Refused with `NoSuchPartition` if there is no such partition. Takes no memory.
     fn statistics(&self, part: u32) -> Result<Statistics, Refusal>
         // The numbers that follow from the plain rows and the counts of commands are right.

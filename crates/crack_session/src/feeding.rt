@@ -3,7 +3,7 @@ ghost use Rattle.std.specs.Prelude.{◌≡◌, ℕ, List, ◌+◌, ◌-◌, ◌<
 ghost use Rattle.std.specs.Prelude.{IsTrue, false, length, take};
 ghost use Rattle.crack_session.specs.Answers.{IsAnswer, answer_text};
 ghost use Rattle.crack_session.specs.Calls.{IsReadingMadeOf};
-ghost use Rattle.crack_session.specs.Telling.{AsksDesk, of_option};
+ghost use Rattle.crack_session.specs.AskingDesks.{AsksDesk, of_option};
 ghost use Rattle.crack_session.specs.Lines.{cut_line};
 ghost use Rattle.crack_session.specs.Readings.{reading_of, statements, until_last};
 ghost use Rattle.crack_session.specs.Feeding.{AnswersAll, Feeds, StoppedFor, ending_after, fed};
@@ -87,7 +87,7 @@ impl Model for Session {
 }
 
 impl Session {
-    /// A new session with this policy.
+    /// A new session with this policy, which has answered nothing. Takes no memory.
     pub fn new(policy: Policy) -> Session
         ensures progress { result.progress ≡ record { statements = 0; first_short = None; policy = policy } }
         ensures begun { result.begun ≡ [] }
@@ -121,10 +121,10 @@ impl Session {
         self.progress.first_short
     }
 
-    /// Takes the next bytes of the input, answers the statements in the lines that they finish, and appends the
-    /// texts to the output. Stops when all bytes are taken, when the output has too little room for the next text
-    /// or for the rest of one, or after a line that ends the session. Takes no memory but the desk's, except for a
-    /// query of several partitions.
+    /// Takes the next bytes of the input, answers the statements in the lines that they finish, and appends the texts
+    /// to the output. Stops when all bytes are taken, when the output has too little room for the next text or for the
+    /// rest of one, or after a line that ends the session. Returns how many bytes were taken, and why the session
+    /// stopped. Takes no memory but the desk's, except for a query of several partitions.
     pub fn feed<D: Desk>(
         &mut self,
         alloc: Global,
@@ -148,7 +148,8 @@ impl Session {
     }
 
     /// Takes the end of the input: an unfinished line is answered as if a line feed followed. Returns what `feed`
-    /// returns for this line feed; if the output is full, the call must be repeated.
+    /// returns for this line feed. If the session stopped because the output is full, the caller clears the output and
+    /// calls `end` again. Costs what `feed` costs.
     pub fn end<D: Desk>(&mut self, alloc: Global, desk: &mut D, out: &mut Output) -> Fed
         ensures feeds { Feeds D.bounds D.splits D.tables D.leads self.old (take result.taken (10 ∷ [])) desk.old
             desk.new out.old.items out.new.items self.new }
@@ -161,8 +162,9 @@ impl Session {
         self.feed(alloc, desk, b"\n", out)
     }
 
-    /// Appends as much of the rest of a text as there is room for, and returns why the session takes none of the
-    /// next `left` bytes, or `None` if it takes some.
+    /// Appends as much of the rest of a text as there is room for. Returns `None` if the session takes some of the
+    /// `left` bytes that are offered next, else why it takes none: `Full` if there is still a rest, or no room for the
+    /// longest text; `Quit` or `Refused` if a line has ended it; `Wants` if `left` is 0.
     #[inline(always)]
     fn stops(&mut self, left: usize, out: &mut Output) -> Option<Why>
         ensures text { out.new.items ++ self.new.unwritten ≡ out.old.items ++ self.old.unwritten }
@@ -224,7 +226,7 @@ impl Session {
         }
     }
 
-    /// Appends as much of the rest of a text as there is room for, and returns whether nothing is left.
+    /// Appends as much of the rest of a text as there is room for, and returns whether nothing of it is left.
     fn append_rest(&mut self, out: &mut Output) -> bool
         ensures text { out.new.items ++ self.new.unwritten ≡ out.old.items ++ self.old.unwritten }
         ensures grows { length out.old.items ≤ length out.new.items }
@@ -237,8 +239,9 @@ impl Session {
         self.rest.is_nothing()
     }
 
-    /// Takes the bytes of the next line, or all bytes if they don't finish a line, and returns how many it took. An
-    /// insert in the usual form is parsed before the end of its line is searched for.
+    /// Takes the bytes of the next line through its line feed and answers it; if the bytes have no line feed, takes
+    /// them all into the unfinished line. Returns how many bytes it took. An insert in the usual form is parsed before
+    /// the end of its line is searched for.
     #[inline(always)]
     fn take_line<D: Desk>(
         &mut self,
@@ -264,7 +267,7 @@ impl Session {
         self.take_any_line(alloc, desk, bytes, out)
     }
 
-    /// Does what `take_line` does, for a line of any form.
+    /// Implements `take_line` for a line of any form.
     #[inline(never)]
     fn take_any_line<D: Desk>(
         &mut self,
@@ -291,7 +294,7 @@ impl Session {
         place + 1
     }
 
-    /// Appends bytes to the unfinished line, up to `KEPT_BYTES` in total.
+    /// Appends bytes to the unfinished line, up to `KEPT_BYTES` in total, and drops the others.
     fn keep(&mut self, bytes: &[u8])
         ensures few { length self.old.begun ≤ KEPT_BYTES }
         ensures kept { self.new ≡ record self.old { begun = cut_line (self.old.begun ++ bytes.now) } }
@@ -300,7 +303,8 @@ impl Session {
         push(&mut self.begun, &bytes[..bytes.len().min(room)]);
     }
 
-    /// Finishes the unfinished line with these bytes, and parses it. `None` if it is blank.
+    /// Ends the unfinished line with the bytes `rest`, and parses it. Returns `None` if it is blank. Afterwards no line
+    /// is unfinished.
     fn finish(&mut self, rest: &[u8]) -> Option<Result<Statement, Refusal>>
         ensures few { length self.old.begun ≤ KEPT_BYTES }
         ensures reading { result ≡ reading_of (self.old.begun ++ rest.now) }
@@ -315,7 +319,8 @@ impl Session {
         reading
     }
 
-    /// Answers a parsed line, unless it is blank (`None`).
+    /// Answers a parsed line, records the answer, and appends the beginning of its text. Does nothing if `reading` is
+    /// `None`, which means a blank line.
     fn respond<D: Desk>(
         &mut self,
         alloc: Global,
@@ -333,14 +338,14 @@ impl Session {
             Some(reading) => {
                 let answer = answer_reading(alloc, desk, self.progress.policy, reading);
                 self.ending = ended_by(self.ending, &reading);
-                self.tell(answer, out);
+                self.output_answer(answer, out);
             }
             None => (),
         }
     }
 
-    /// Answers an insert, the most frequent statement. The call of the desk is inlined with a command that is known
-    /// to be an insert, and the reply is appended without becoming an `Answer`.
+    /// Answers an insert of a row with this key and payload, the most frequent statement. The call of the desk is
+    /// inlined with a command that is known to be an insert, and the reply is appended without becoming an `Answer`.
     #[inline(always)]
     fn answer_insert<D: Desk>(&mut self, desk: &mut D, key: Key, payload: Payload, out: &mut Output)
         requires written { self.old.unwritten ≡ [] }
@@ -351,15 +356,15 @@ impl Session {
     {
         let part = part_with_key(desk, key);
         match desk.ask(part, Command::Insert { key, payload }, self.progress.policy) {
-            Ok(reply) => self.tell_reply(part, reply, out),
-            Err(refusal) => self.tell_refusal(refusal, out),
+            Ok(reply) => self.output_reply(part, reply, out),
+            Err(refusal) => self.output_refusal(refusal, out),
         }
     }
 
-    /// Appends the beginning of a reply's text, keeps the rest, and counts the statement. Records nothing else,
-    /// because a reply sets no policy and isn't a refusal.
+    /// Appends the beginning of the text of a reply of partition `part`, keeps the rest, and counts the statement.
+    /// Records nothing else, because a reply sets no policy and isn't a refusal.
     #[inline(always)]
-    fn tell_reply(&mut self, part: u32, reply: Reply, out: &mut Output)
+    fn output_reply(&mut self, part: u32, reply: Reply, out: &mut Output)
         requires { length out.old.items + LONGEST_TEXT ≤ OUTPUT_BYTES }
         ensures text { out.new.items ++ self.new.unwritten ≡ out.old.items ++ reply_text part reply }
         ensures grows { length out.old.items ≤ length out.new.items }
@@ -373,18 +378,18 @@ impl Session {
     /// Counts a refusal, and appends its text. A separate function, so that no space for an `Answer` is cleared when
     /// a reply is appended.
     #[inline(never)]
-    fn tell_refusal(&mut self, refusal: Refusal, out: &mut Output)
+    fn output_refusal(&mut self, refusal: Refusal, out: &mut Output)
         requires { length out.old.items + LONGEST_TEXT ≤ OUTPUT_BYTES }
         ensures text { out.new.items ++ self.new.unwritten ≡ out.old.items ++ answer_text (Answer.Refused refusal) }
         ensures grows { length out.old.items ≤ length out.new.items }
         ensures noted { self.new.progress ≡ progress_after self.old.progress (Answer.Refused refusal) }
         ensures same { (self.new.begun ≡ self.old.begun) × (self.new.ending ≡ self.old.ending) }
     {
-        self.tell(Answer::Refused(refusal), out);
+        self.output_answer(Answer::Refused(refusal), out);
     }
 
     /// Records an answer in the session's progress, appends the beginning of its text, and keeps the rest.
-    fn tell(&mut self, answer: Answer, out: &mut Output)
+    fn output_answer(&mut self, answer: Answer, out: &mut Output)
         requires { length out.old.items + LONGEST_TEXT ≤ OUTPUT_BYTES }
         ensures text { out.new.items ++ self.new.unwritten ≡ out.old.items ++ answer_text answer }
         ensures grows { length out.old.items ≤ length out.new.items }
@@ -396,7 +401,8 @@ impl Session {
     }
 }
 
-/// Counts an answer, and records a new policy and the first refusal for lack of room.
+/// Counts an answer. Records the policy that the answer sets, if any. Records the answer's number if this is the first
+/// refusal for lack of room.
 fn note(progress: &mut SessionProgress, answer: &Answer)
     ensures { progress.new ≡ progress_after progress.old answer.now }
 {
@@ -409,7 +415,8 @@ fn note(progress: &mut SessionProgress, answer: &Answer)
     }
 }
 
-/// How a statement ends the session, or `ending` if it doesn't.
+/// The line that has ended the session: the parsed line if it ends the session, else `ending`, which is an earlier
+/// line or `None`.
 fn ended_by(
     ending: Option<ClosingLine>,
     reading: &Result<Statement, Refusal>,
@@ -422,7 +429,8 @@ fn ended_by(
     }
 }
 
-/// Answers a parsed line: a statement, or the refusal of a line that isn't one.
+/// Answers a parsed line: executes its statement at the desk with this policy, or, if the line isn't a statement,
+/// answers with the line's refusal.
 fn answer_reading<D: Desk>(
     alloc: Global,
     desk: &mut D,

@@ -7,10 +7,10 @@ use memchr::memchr;
 /// The greatest number of bytes in one read.
 pub const READ_BYTES: usize = 4096;
 
-/// How many bytes of an unfinished line are kept. A line with more bytes is too long, whatever follows.
+/// How many bytes of an unfinished line are kept. A line with more bytes is too long, whatever these are.
 pub const KEPT_BYTES: usize = 202;
 
-/// The index of the first line feed, or the length if there is none.
+/// The index of the first line feed, or the length if there is none. O(index), no memory.
 pub fn feed_at(bytes: &[u8]) -> usize
     ensures within { result ≤ length bytes.now }
     ensures front { take result bytes.now ≡ first_line bytes.now }

@@ -8,10 +8,10 @@ use crate::LINE_BYTES;
 use crack_commands::{Statement, parse_long, parse_statement};
 use crack_row::Refusal;
 
-/// Parses a line: returns its statement or why it isn't one, or `None` if it is blank. Refused with `BadRange` if
-/// the ends of a range are out of order or too great, else with `BadStatement`. Of a line that is too long only the
-/// first `LINE_BYTES` bytes are parsed: it ends the session if it belongs to an HTTP request, and otherwise it isn't a
-/// statement. Takes no memory.
+/// Parses a line, without its line feed: returns its statement, or why it isn't one, or `None` if it is blank. Refused
+/// with `BadRange` if the low end of a range is above the high end, or the high end is above `GREATEST_BOUND`, and
+/// else with `BadStatement`. If the line is longer than `LINE_BYTES`, its first `LINE_BYTES` bytes decide: it ends the
+/// session if it belongs to an HTTP request, and otherwise it is refused. O(bytes parsed), no memory.
 #[tactic(auto, unfolding(crate::specs::Readings::reading_of))]
 #[inline(always)]
 pub fn read_line(line: &[u8]) -> Option<Result<Statement, Refusal>>
@@ -27,7 +27,7 @@ pub fn read_line(line: &[u8]) -> Option<Result<Statement, Refusal>>
     Some(parse_statement(line))
 }
 
-/// Whether a parsed line ends the session.
+/// Whether a parsed line ends the session: it is `quit`, or belongs to an HTTP request.
 #[inline(always)]
 pub fn is_last(reading: &Result<Statement, Refusal>) -> bool
     ensures { result ≡ is_last reading.now }

@@ -4,7 +4,7 @@ ghost use Rattle.crack_plain.specs.Plain.{IsSmall};
 ghost use Rattle.crack_session.specs.Queries.{joint_answer};
 
 use crate::answer::Answer;
-use crack_core::{PartReply, Query, rows_told, sum_told};
+use crack_core::{PartReply, Query, total_rows, total_sum};
 use std::marker::Model;
 
 /// The replies of several partitions to one query, in the order in which they were asked. Contracts see a list.
@@ -38,17 +38,18 @@ impl ReplyList {
     }
 }
 
-/// Joins the replies of several partitions: counts and sums are added, and rows are listed one partition after another.
+/// Joins the replies of several partitions to a query: counts and sums are added, and rows are listed one partition
+/// after another. O(replies), no memory.
 pub fn joined(query: Query, replies: Vec<PartReply>) -> Answer
     requires small { All (λ (r : PartReply). IsSmall r.reply) replies.items }
     requires few { length replies.items ≤ 64 }
     ensures { result ≡ joint_answer query replies.items }
 {
     match query {
-        Query::CountRows => Answer::Counted(rows_told(replies.as_slice())),
-        Query::SumPayloads => Answer::Summed(sum_told(replies.as_slice())),
+        Query::CountRows => Answer::Counted(total_rows(replies.as_slice())),
+        Query::SumPayloads => Answer::Summed(total_sum(replies.as_slice())),
         Query::SelectRows => {
-            let total = rows_told(replies.as_slice());
+            let total = total_rows(replies.as_slice());
             let lists = ReplyList::from_vec(replies);
             Answer::Listed { total, lists }
         }

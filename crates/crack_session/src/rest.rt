@@ -43,7 +43,7 @@ pub enum Rest {
     },
 }
 
-/// Whether there is room for `count` more bytes.
+/// Whether there is room in `out` for `count` more bytes. O(1).
 #[inline(always)]
 pub fn has_room(out: &Output, count: usize) -> bool
     requires { count ≤ OUTPUT_BYTES }
@@ -61,7 +61,8 @@ impl Rest {
         matches!(self, Rest::Nothing)
     }
 
-    /// Appends as much as there is room for, and returns the rest. Takes no memory.
+    /// Appends as many lines of this rest as there is room for, and returns the lines that are left. O(bytes
+    /// appended), no memory.
     pub fn append(self, out: &mut Output) -> Rest
         ensures text { out.new.items ++ rest_text result ≡ out.old.items ++ rest_text self }
         ensures grows { length out.old.items ≤ length out.new.items }
@@ -76,7 +77,8 @@ impl Rest {
     }
 }
 
-/// Appends the lines of rows from index `at` on while there is room, and returns the rest.
+/// Appends the lines of rows of partition `part`, from index `at` on, as many as there is room for, and returns the
+/// rest.
 fn append_rows(part: u32, rows: RowList, at: usize, out: &mut Output) -> Rest
     ensures text { out.new.items ++ rest_text result ≡ out.old.items ++ flat_map (row_text part) (drop at rows) }
     ensures grows { length out.old.items ≤ length out.new.items }
@@ -90,8 +92,8 @@ fn append_rows(part: u32, rows: RowList, at: usize, out: &mut Output) -> Rest
     }
 }
 
-/// Appends the lines of several partitions' rows, from the row `at` of the list `list` on, while there is room, and
-/// returns the rest.
+/// Appends the lines of several partitions' rows, from the row `at` of the list `list` on, as many as there is room
+/// for, and returns the rest.
 fn append_lists(lists: ReplyList, list: usize, at: usize, out: &mut Output) -> Rest
     ensures text { out.new.items ++ rest_text result ≡ out.old.items ++ lists_from (drop list lists) at }
     ensures grows { length out.old.items ≤ length out.new.items }
@@ -105,7 +107,7 @@ fn append_lists(lists: ReplyList, list: usize, at: usize, out: &mut Output) -> R
     }
 }
 
-/// Appends the lines of pieces from index `at` on while there is room, and returns the rest.
+/// Appends the lines of a layout's pieces, from index `at` on, as many as there is room for, and returns the rest.
 fn append_pieces(layout: Layout, at: usize, out: &mut Output) -> Rest
     ensures text { out.new.items ++ rest_text result ≡ out.old.items ++ flat_map piece_text (drop at layout.pieces) }
     ensures grows { length out.old.items ≤ length out.new.items }
@@ -119,8 +121,8 @@ fn append_pieces(layout: Layout, at: usize, out: &mut Output) -> Rest
     }
 }
 
-/// Appends the lines of rows from index `at` on while there is room, and returns the index of the first row that
-/// isn't appended.
+/// Appends the lines of rows of partition `part`, from index `at` on, as many as there is room for. Returns the index
+/// of the first row that isn't appended, which is the number of rows if all are.
 fn push_rows(part: u32, rows: &[Row], at: usize, out: &mut Output) -> usize
     ensures text { out.new.items ++ flat_map (row_text part) (drop result rows.now) ≡
         out.old.items ++ flat_map (row_text part) (drop at rows.now) }
@@ -135,8 +137,9 @@ fn push_rows(part: u32, rows: &[Row], at: usize, out: &mut Output) -> usize
     next
 }
 
-/// Appends the lines of several partitions' rows, from the row `at` of the list `list` on, while there is room, and
-/// returns the list and row of the first that isn't appended.
+/// Appends the lines of several partitions' rows, from the row `at` of the list `list` on, as many as there is room
+/// for. Returns where the first row is that isn't appended: the index of its list, and its index there. If all are
+/// appended, the first index is the number of lists.
 fn push_lists(lists: &[PartReply], list: usize, at: usize, out: &mut Output) -> (usize, usize)
     ensures text { out.new.items ++ lists_from (drop result.0 lists.now) result.1 ≡
         out.old.items ++ lists_from (drop list lists.now) at }
@@ -157,8 +160,8 @@ fn push_lists(lists: &[PartReply], list: usize, at: usize, out: &mut Output) -> 
     (list, at)
 }
 
-/// Appends the lines of pieces from index `at` on while there is room, and returns the index of the first piece that
-/// isn't appended.
+/// Appends the lines of pieces, from index `at` on, as many as there is room for. Returns the index of the first piece
+/// that isn't appended, which is the number of pieces if all are.
 fn push_pieces(pieces: &[PieceSize], at: usize, out: &mut Output) -> usize
     ensures text { out.new.items ++ flat_map piece_text (drop result pieces.now) ≡
         out.old.items ++ flat_map piece_text (drop at pieces.now) }
@@ -174,7 +177,7 @@ fn push_pieces(pieces: &[PieceSize], at: usize, out: &mut Output) -> usize
 }
 
 /// Appends the beginning of an answer's text, and returns the rest: the lines of its rows or pieces, if it has any.
-/// Takes no memory.
+/// O(bytes appended), no memory.
 #[tactic(auto, unfolding(crate::specs::Answers::answer_text))]
 pub fn append_answer(answer: Answer, out: &mut Output) -> Rest
     requires { length out.old.items + LONGEST_TEXT ≤ OUTPUT_BYTES }
@@ -210,7 +213,8 @@ pub fn append_answer(answer: Answer, out: &mut Output) -> Rest
     Rest::Nothing
 }
 
-/// Appends the beginning of a reply's text, and returns the rest: the lines of its rows, if it has any.
+/// Appends the beginning of the text of a reply of partition `part`, and returns the rest: the lines of its rows, if
+/// it has any. O(bytes appended), no memory.
 #[inline(always)]
 pub fn append_reply(part: u32, reply: Reply, out: &mut Output) -> Rest
     requires { length out.old.items + LONGEST_TEXT ≤ OUTPUT_BYTES }

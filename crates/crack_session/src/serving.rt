@@ -19,12 +19,14 @@ use crack_row::{Policy, Refusal, Watched};
 use std::alloc::Global;
 use std::io::{Read, Write};
 
-/// Answers the statements of a reader, each whole line before the next read, until the input ends or a line ends the
-/// session: the statement `quit`, or a line of an HTTP request, which is refused with `BadStatement`. What was read
-/// beyond that line is dropped. Commands use `policy` until a statement sets another. Texts are written when a read
-/// is answered or the output is full, and flushed before each read and at the end: if the texts of one read fit into
-/// the output, there is one write for each read. Takes the memory that the desk takes, and memory for the replies of
-/// several partitions to one statement, but none for a line, so it is never cut off with `OutOfMemory`.
+/// Answers the statements that it reads from `reader`, each whole line before the next read. Ends when the input ends
+/// or a line ends the session: the statement `quit`, or a line of an HTTP request, which is refused with
+/// `BadStatement`. What was read after that line is dropped. Commands use `policy` until a statement sets another.
+/// Texts are written when a read is answered or the output is full, and flushed before each read and at the end: if
+/// the texts of one read fit into the output, there is one write for each read. Cut off with `WriteFault` if the
+/// writer fails, and with `ReadFault` if the reader fails or after `MOST_READS` reads. Takes the memory that the desk
+/// takes, and memory for the replies of several partitions to one statement, but none for a line, so it is never cut
+/// off with `OutOfMemory`.
 pub fn serve<D: Desk, R: Read, W: Write>(
     alloc: Global,
     desk: &mut D,
@@ -68,8 +70,8 @@ pub fn serve<D: Desk, R: Read, W: Write>(
     }
 }
 
-/// Makes the reads of a new session, and returns how it ended. Refused with `ReadFault` or `WriteFault` if a device
-/// fails, and with `ReadFault` after `MOST_READS` reads.
+/// Makes the reads of a new session, one after another, until it ends, and returns how it ended. Refused with
+/// `ReadFault` or `WriteFault` if a device fails, and with `ReadFault` after `MOST_READS` reads.
 fn serve_reads<D: Desk, R: Read, W: Write>(
     alloc: Global,
     desk: &mut D,
@@ -116,11 +118,12 @@ fn serve_reads<D: Desk, R: Read, W: Write>(
     Err(Refusal::ReadFault)
 }
 
-/// Reads once, answers the bytes, writes the texts and flushes. At the end of the input an unfinished line is
-/// answered. Returns how the session ended, or `None` if it goes on. Refused with `ReadFault` or `WriteFault` if a
-/// device fails. The output is empty before and after. Whatever the devices do, the session is fed only bytes that
-/// were read, and the texts that it appends are written. If the writer fails, a prefix of the texts is written, and
-/// no more is lost than fits into the output.
+/// Reads once into `room`, answers the bytes, writes the texts and flushes. At the end of the input an unfinished line
+/// is answered. Returns how the session ended, or `None` if it goes on. Refused with `ReadFault` or `WriteFault` if a
+/// device fails. The output `out` is empty before the call and after it. The session is fed the bytes that were read,
+/// or a line feed at the end of the input. The texts that it appends are written; if the writer fails, only a prefix of
+/// them is, and no more is lost than fits into the output. Takes no memory but the desk's, except for a query of
+/// several partitions.
 pub fn serve_read<D: Desk, R: Read, W: Write>(
     alloc: Global,
     desk: &mut D,
@@ -142,8 +145,8 @@ pub fn serve_read<D: Desk, R: Read, W: Write>(
     }
 }
 
-/// Reads as many bytes as are available and fit, and returns how many. Returns 0 only at the end of the input.
-/// Refused with `ReadFault` if the reader fails.
+/// Reads as many bytes as are available and fit into `room`, and returns how many. Returns 0 only at the end of the
+/// input. Refused with `ReadFault` if the reader fails.
 fn read_some<R: Read>(
     reader: &mut Watched<R>,
     room: &mut [u8; READ_BYTES],
@@ -160,8 +163,9 @@ fn read_some<R: Read>(
     }
 }
 
-/// Answers the bytes of a read, writes the texts and flushes. Returns how the session ended, or `None` if it goes
-/// on. Refused with `WriteFault` if the writer fails.
+/// Answers the bytes of a read, or an unfinished line if there are no bytes because the input has ended. Writes the
+/// texts and flushes. Returns how the session ended, or `None` if it goes on. Refused with `WriteFault` if the writer
+/// fails.
 fn serve_bytes<D: Desk, W: Write>(
     alloc: Global,
     desk: &mut D,
@@ -185,8 +189,8 @@ fn serve_bytes<D: Desk, W: Write>(
     }
 }
 
-/// The bytes that the session is fed for a read: those that were read, or a line feed at the end of the input,
-/// where there are none.
+/// The bytes that the session is fed for a read: the bytes that were read, or, if there are none because the input has
+/// ended, a line feed.
 #[inline(always)]
 fn fed_by(bytes: &[u8]) -> &[u8]
     ensures { result.now ≡ fed_by bytes.now }
@@ -194,8 +198,8 @@ fn fed_by(bytes: &[u8]) -> &[u8]
     if bytes.is_empty() { b"\n" } else { bytes }
 }
 
-/// How a session ended that stopped for this reason after the bytes of a read, of which there are none at the end
-/// of the input. `None` if it goes on.
+/// How a session ended that stopped for the reason `why` after a read of `bytes`: `Quit` if a line ended it, else
+/// `InputEnded` if `bytes` are empty, because the input has ended. `None` if the session goes on.
 fn how_after(why: Why, bytes: &[u8]) -> Option<How>
     ensures { (left : ℕ) → (s : SessionState) → StoppedFor why left [] s → StopsAs result bytes.now left s }
 {
@@ -211,7 +215,8 @@ fn how_after(why: Why, bytes: &[u8]) -> Option<How>
     }
 }
 
-/// Feeds bytes to a session until it wants more or has ended, writes the texts, and returns why it stopped. Refused
+/// Feeds all bytes to a session, or those up to a line that ends it, and writes its texts whenever the output is full
+/// and at the end. Returns why the session stopped: `Wants`, or, if a line has ended it, `Quit` or `Refused`. Refused
 /// with `WriteFault` if the writer fails.
 fn feed_all<D: Desk, W: Write>(
     alloc: Global,
@@ -278,8 +283,8 @@ fn feed_rest<D: Desk, W: Write>(
     }
 }
 
-/// Feeds bytes to a session until the output is full or the session wants more or has ended, and writes the texts.
-/// Returns the result of the feed, and that of the write.
+/// Feeds bytes to a session once, until it stops because the output is full, it wants more, or a line has ended it.
+/// Writes the texts and clears the output. Returns the result of the feed, and that of the write.
 fn feed_once<D: Desk, W: Write>(
     alloc: Global,
     desk: &mut D,

@@ -6,14 +6,15 @@ ghost use Rattle.crack_plain.specs.Watching.{no_statistics};
 ghost use Rattle.crack_plain.specs.declared.statistics.Statistics.{Statistics};
 ghost use Rattle.crack_session.specs.Answers.{AreNumbersOfEach, AreWatched, IsWatched, added_up, answer_from};
 ghost use Rattle.crack_session.specs.Calls.{Call, Calls, AreAllMeasured, AreMeasured, Measured};
-ghost use Rattle.crack_session.specs.Telling.{AsksDesk};
+ghost use Rattle.crack_session.specs.AskingDesks.{AsksDesk};
 
 use crate::answer::Answer;
 use crate::desk::Desk;
 use crack_plain::Statistics;
 use crack_row::Refusal;
 
-/// Answers with the statistics of one partition, or with the refusal of the desk.
+/// Answers with the statistics of one partition, or with the refusal of the desk if there is no such partition. Takes
+/// no memory.
 pub fn watch_part<D: Desk>(desk: &D, part: u32) -> Answer
     ensures { AsksDesk D.bounds D.splits D.tables D.leads (λ bounds splits tables new. IsWatched tables part result ×
         (new ≡ tables)) (λ splits calls. (outcome : Result Statistics Refusal) × (calls ≡ Measured part outcome ∷ []) ×
@@ -28,8 +29,8 @@ pub fn watch_part<D: Desk>(desk: &D, part: u32) -> Answer
     }
 }
 
-/// Answers with the sum of the statistics of all partitions, and the traffic of the server, if there is one; or
-/// with the first refusal of the desk.
+/// Answers with the sum of the statistics of all partitions, and the traffic of the server, if there is one; or with
+/// the first refusal of the desk. One call for each partition, and no memory.
 pub fn watch<D: Desk>(desk: &D) -> Answer
     ensures { AsksDesk D.bounds D.splits D.tables D.leads (λ bounds splits tables new. AreWatched tables result ×
         (new ≡ tables)) (λ splits calls. AreAllMeasured splits result calls) desk.now desk.now }
@@ -43,7 +44,8 @@ pub fn watch<D: Desk>(desk: &D) -> Answer
     }
 }
 
-/// Adds up the statistics of all partitions, in order. Returns the first refusal instead if there is one.
+/// Adds up the statistics of all partitions, from partition 0 on. If the desk refuses those of one, returns this
+/// refusal.
 fn add_up<D: Desk>(desk: &D) -> Result<Statistics, Refusal>
     ensures are { (known : List PlainView) → D.tables desk.now ≡ Some known → (each : List Statistics) ×
         AreNumbersOfEach known each × (result ≡ Ok (added_up no_statistics each)) }

@@ -117,12 +117,12 @@ fn fail(
         first_short: None,
     };
     assert_eq!(rt; seen.result, Err(fault));
-    let (told, whole) = whole_parts(&REPLIES, seen.text.len());
+    let (replied, whole) = whole_parts(&REPLIES, seen.text.len());
     let is_as_wanted = if refusal == Refusal::ReadFault {
-        seen.text.len() == whole && told == done
+        seen.text.len() == whole && replied == done
     } else {
         let (before, _) = whole_parts(&LINES, read.saturating_sub(MOST_OF_A_READ));
-        seen.calls == devices.call && before <= told && told <= done
+        seen.calls == devices.call && before <= replied && replied <= done
     };
     assert!(rt; is_prefix && is_as_wanted);
     drop(seen);

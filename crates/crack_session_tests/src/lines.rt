@@ -1,5 +1,5 @@
 //! Single lines, each for a new core, read in pieces.
-use crate::session::{assert_told, core, ended, joined};
+use crate::session::{assert_session, core, ended, joined};
 use crack_failing::{ONE_BYTE, Source};
 use crack_row::GREATEST_LIMIT;
 use crack_session::LINE_BYTES;
@@ -12,7 +12,7 @@ fn assert_line(rt: &impl Abort, alloc: Global, line: &[u8], text: &[u8], sizes: 
     let end = ended(statements, None);
     let mut desk = core(rt, alloc, &[], GREATEST_LIMIT);
     let source = Source::new(line).cut(sizes);
-    assert_told(rt, alloc, &mut desk, source, text, end);
+    assert_session(rt, alloc, &mut desk, source, text, end);
     drop(desk);
 }
 

@@ -4,7 +4,7 @@
 //! in turn.
 use crate::desks::Refusing;
 use crate::plain_desk::PlainDesk;
-use crate::session::{assert_told, ended, joined, session, tell};
+use crate::session::{assert_session, ended, joined, session, tell};
 use crack_core::Core;
 use crack_failing::Source;
 use crack_row::{GREATEST_LIMIT, Layout, Policy, Refusal, Watched};
@@ -40,7 +40,7 @@ fn replies_without(rt: &impl Abort, alloc: Global, place: u64) -> Vec<u8> {
     let mut at = 0u64;
     for line in LINES {
         at = at.saturating_add(1);
-        let is_told = if at == place {
+        let is_written = if at == place {
             writer.write_all(b"refused 8\n").is_ok()
         } else {
             let mut reader = Watched::new(line);
@@ -53,7 +53,7 @@ fn replies_without(rt: &impl Abort, alloc: Global, place: u64) -> Vec<u8> {
             )
             .is_ok()
         };
-        assert!(rt; is_told);
+        assert!(rt; is_written);
     }
     drop(plain);
     writer.into_inner()
@@ -69,7 +69,7 @@ fn a_want_of_memory_stops_nothing(rt: HostRuntime) {
         let replies = replies_without(&rt, alloc, place);
         let mut desk = Refusing::new(alloc, Refusal::OutOfMemory, place, place);
         let end = ended(17, Some(place));
-        assert_told(&rt, alloc, &mut desk, Source::new(&input), &replies, end);
+        assert_session(&rt, alloc, &mut desk, Source::new(&input), &replies, end);
         drop(desk);
     }
 }
@@ -100,15 +100,15 @@ fn answer_beside(
     line: &[u8],
 ) -> bool {
     let short = Ok(ended(1, Some(1)));
-    let (told, text) = tell(rt, alloc, core, policy, Source::new(line));
-    if told == short {
+    let (found, text) = tell(rt, alloc, core, policy, Source::new(line));
+    if found == short {
         assert!(rt; text.as_slice() == b"refused 8\n".as_slice());
         let layout = core.layout(0).expect(rt, "a layout");
         assert_layout(rt, &layout);
         return true;
     }
-    let (told, mut wanted) = tell(rt, alloc, plain, policy, Source::new(line));
-    if told == short {
+    let (found, mut wanted) = tell(rt, alloc, plain, policy, Source::new(line));
+    if found == short {
         wanted = tell(rt, alloc, plain, policy, Source::new(line)).1;
     }
     assert!(rt; text.as_slice() == wanted.as_slice());

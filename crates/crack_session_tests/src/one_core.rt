@@ -57,13 +57,13 @@ fn serve_and_export<R: Read, W: Write>(
     reader: &mut Watched<R>,
     writer: &mut Watched<W>,
 ) -> Result<(SessionEnd, u64), Refusal>
-    ensures { IfOk result (λ told. (bytes out : List ℕ) →
+    ensures { IfOk result (λ pair. (bytes out : List ℕ) →
         R.remaining (device reader.old) ≡ Some bytes → W.contents (device writer.old) ≡ Some out →
         (between : List PlainView) × (answers : List Answer)
         × AreAnswers (bounds_from core.old.limits) core.old.splits (tables_of core.old.parts) (statements bytes) answers
         between
-        × (told.0.first_short ≡ first_short answers)
-        × IsExported (bounds_from core.old.limits) core.old.splits between told.1 (Some (tables_of core.new.parts))
+        × (pair.0.first_short ≡ first_short answers)
+        × IsExported (bounds_from core.old.limits) core.old.splits between pair.1 (Some (tables_of core.new.parts))
         (Some (out ++ concat (map answer_text answers))) (W.contents (device writer.new))) }
 {
     match serve(alloc, core, Policy::Ripple, reader, writer) {

@@ -34,11 +34,11 @@ pub fn assert_case(rt: &impl Abort, alloc: Global, case: Case, cells: u64, upkee
     let opened = Partition::open_with(alloc, keys, limits);
     let mut asking = Asking::new(opened.expect(rt, "a partition"));
     assert_answers(rt, alloc, &mut asking, case.name, case.script);
-    let told = counts(&asking.partition);
+    let found = counts(&asking.partition);
     let is_right = asking.is_right;
     drop(asking);
     assert!(rt;
-        is_right && told == [case.accepted, case.accepted],
+        is_right && found == [case.accepted, case.accepted],
         "{}",
         case.name
     );

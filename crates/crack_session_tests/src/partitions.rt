@@ -30,12 +30,12 @@ fn assert_parts(
     assert!(rt; parts.len() == wanted.len());
     for place in 0..wanted.len() {
         let (number, range) = parts[place];
-        let told = [
+        let found = [
             BoundNumber::from(number),
             range.low().number(),
             range.high().number(),
         ];
-        assert!(rt; told == wanted[place], "part {place}");
+        assert!(rt; found == wanted[place], "part {place}");
     }
 }
 
@@ -109,7 +109,7 @@ fn layout_of(core: &Core, part: u32) -> Result<Layout, Refusal> {
 #[test]
 fn each_partition_has_the_limit(rt: HostRuntime) {
     let mut core = core(&rt, rt.alloc(), &[100], 1);
-    let told = [
+    let refusals = [
         count_refused(&mut core, 0),
         count_refused(&mut core, 1),
         count_refused(&mut core, 1),
@@ -118,7 +118,7 @@ fn each_partition_has_the_limit(rt: HostRuntime) {
     let elsewhere = layout_of(&core, 2).err();
     drop(core);
     let full = Refusal::HistoryFull { length: 1 };
-    assert_eq!(rt; told, [None, None, Some(full)]);
+    assert_eq!(rt; refusals, [None, None, Some(full)]);
     assert!(rt; layout.pieces.as_slice().len() == 1);
     assert!(rt; elsewhere == Some(Refusal::NoSuchPartition));
 }

@@ -133,7 +133,7 @@ fn assert_fed(rt: &impl Abort, alloc: Global, bytes: &[u8], most: u64, ends: Why
     requires { 0 < most }
 {
     let mut desk = core(rt, alloc, &[100, 200], GREATEST_LIMIT);
-    let (told, whole) = tell(rt, alloc, &mut desk, Policy::Complete, Source::new(bytes));
+    let (found, whole) = tell(rt, alloc, &mut desk, Policy::Complete, Source::new(bytes));
     drop(desk);
     let mut session = Session::new(Policy::Complete);
     let mut text = Vec::new(alloc);
@@ -143,7 +143,7 @@ fn assert_fed(rt: &impl Abort, alloc: Global, bytes: &[u8], most: u64, ends: Why
     let counts = (session.statements(), session.first_short());
     assert_eq!(rt; (text.as_slice(), why), (whole.as_slice(), ends));
     assert_eq!(rt;
-        told.ok().map(|end| (end.statements, end.first_short)),
+        found.ok().map(|end| (end.statements, end.first_short)),
         Some(counts)
     );
 }
@@ -170,7 +170,7 @@ fn a_session_that_is_fed_ends_where_a_whole_one_does(rt: HostRuntime) {
 }
 
 #[test]
-fn a_list_that_is_longer_than_output_is_told_whole(rt: HostRuntime) {
+fn a_list_that_is_longer_than_output_is_written_whole(rt: HostRuntime) {
     let mut bytes = Vec::new(rt.alloc());
     'rows: for _row in 0..2000u32 {
         assert!(rt; bytes.extend_from_slice(b"insert 150 1234567890\n").is_ok());

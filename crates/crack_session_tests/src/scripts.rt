@@ -1,6 +1,6 @@
 //! Sessions as texts: the statements, and the replies.
 use crate::plain_desk::PlainDesk;
-use crate::session::{assert_told, core, joined, room, tell};
+use crate::session::{assert_session, core, joined, room, tell};
 use crack_failing::{ONE_BYTE, Source};
 use crack_row::{BoundNumber, GREATEST_LIMIT, Policy};
 use crack_session::{Desk, How, LINE_BYTES, SessionEnd};
@@ -32,14 +32,14 @@ pub fn assert_script(rt: &impl Abort, alloc: Global, script: Script) {
     };
     let dripping = Source::new(&input).cut(ONE_BYTE);
     let mut desk = core(rt, alloc, script.splits, script.limit);
-    assert_told(rt, alloc, &mut desk, Source::new(&input), &replies, end);
+    assert_session(rt, alloc, &mut desk, Source::new(&input), &replies, end);
     drop(desk);
     let mut desk = core(rt, alloc, script.splits, script.limit);
-    assert_told(rt, alloc, &mut desk, dripping, &replies, end);
+    assert_session(rt, alloc, &mut desk, dripping, &replies, end);
     drop(desk);
     if script.is_plain {
         let mut desk = PlainDesk::new(alloc);
-        assert_told(rt, alloc, &mut desk, Source::new(&input), &replies, end);
+        assert_session(rt, alloc, &mut desk, Source::new(&input), &replies, end);
         drop(desk);
     }
 }
@@ -250,7 +250,7 @@ const ROWS: &[u8] =
     b"insert 10 10\ninsert 20 20\ninsert 30 30\ninsert 40 40\ncount 0 18446744073709551616\ncount 15 25\n\
 insert 17 0\ninsert 90 0\ncount 15 25\nlayout 0\n";
 
-const TOLD: &[u8] =
+const REPLIES: &[u8] =
     b"row 0.0\nrow 0.1\nrow 0.2\nrow 0.3\ncount 4\ncount 1\nrow 0.4\nrow 0.5\ncount 2\n";
 
 /// The layout if all pending rows are merged.
@@ -266,7 +266,7 @@ const POLICIES: &[Script] = &[
         limit: GREATEST_LIMIT,
         is_plain: false,
         input: &[b"policy complete\n", ROWS],
-        replies: &[b"policy complete\n", TOLD, ALL_MERGED],
+        replies: &[b"policy complete\n", REPLIES, ALL_MERGED],
         how: How::InputEnded,
         statements: 11,
         first_short: None,
@@ -278,7 +278,7 @@ const POLICIES: &[Script] = &[
         input: &[b"policy gradual\n", ROWS],
         replies: &[
             b"policy gradual\n",
-            TOLD,
+            REPLIES,
             b"layout 0 rows 6 column 5 out 0 in 1 cells 6 free 0 pieces 3\npiece 0 15 1\npiece 15 25 2\n\
 piece 25 18446744073709551616 2\n",
         ],
@@ -293,7 +293,7 @@ piece 25 18446744073709551616 2\n",
         input: &[b"policy ripple\n", ROWS],
         replies: &[
             b"policy ripple\n",
-            TOLD,
+            REPLIES,
             b"layout 0 rows 6 column 4 out 0 in 2 cells 6 free 0 pieces 3\npiece 0 15 1\npiece 15 25 2\n\
 piece 25 18446744073709551616 1\n",
         ],
@@ -306,7 +306,7 @@ piece 25 18446744073709551616 1\n",
         limit: GREATEST_LIMIT,
         is_plain: false,
         input: &[b"policy auto\n", ROWS],
-        replies: &[b"policy auto\n", TOLD, ALL_MERGED],
+        replies: &[b"policy auto\n", REPLIES, ALL_MERGED],
         how: How::InputEnded,
         statements: 11,
         first_short: None,

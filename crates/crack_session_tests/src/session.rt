@@ -66,7 +66,7 @@ pub fn tell<D: Desk>(
 }
 
 /// Asserts the replies and the result of a session over memory.
-pub fn assert_told<D: Desk>(
+pub fn assert_session<D: Desk>(
     rt: &impl Abort,
     alloc: Global,
     desk: &mut D,
@@ -74,8 +74,8 @@ pub fn assert_told<D: Desk>(
     replies: &[u8],
     end: SessionEnd,
 ) {
-    let (told, text) = tell(rt, alloc, desk, Policy::Complete, source);
-    assert_eq!(rt; (told, text.as_slice()), (Ok(end), replies));
+    let (found, text) = tell(rt, alloc, desk, Policy::Complete, source);
+    assert_eq!(rt; (found, text.as_slice()), (Ok(end), replies));
 }
 
 /// The bounds with these numbers.
@@ -99,7 +99,7 @@ fn assert_printed(rt: &impl Abort, alloc: Global, refusal: Refusal, first_short:
     let mut desk = Refusing::new(alloc, refusal, 1, u64::MAX);
     let source = Source::new(b"count 0 1\n");
     let end = ended(1, first_short);
-    assert_told(rt, alloc, &mut desk, source, printed.as_bytes(), end);
+    assert_session(rt, alloc, &mut desk, source, printed.as_bytes(), end);
     drop(desk);
 }
 
@@ -130,7 +130,7 @@ fn a_layout_that_finds_no_memory(rt: HostRuntime) {
     let mut desk = Refusing::new(rt.alloc(), Refusal::OutOfMemory, 1, u64::MAX);
     let source = Source::new(b"policy gradual\nlayout 0");
     let replies = b"policy gradual\nrefused 8\n";
-    assert_told(
+    assert_session(
         &rt,
         rt.alloc(),
         &mut desk,

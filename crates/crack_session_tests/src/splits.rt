@@ -109,7 +109,7 @@ const TWO_PARTS: &[u8] =
     b"insert 10 1\ninsert 20 1\ninsert 110 1\ninsert 130 1\ncount 0 18446744073709551616\ncount 15 125\n\
 insert 5 1\ninsert 17 1\ninsert 117 1\ninsert 190 1\ncount 15 125\nlayout 0\nlayout 1\n";
 
-const TOLD: &[u8] =
+const REPLIES: &[u8] =
     b"row 0.0\nrow 0.1\nrow 1.0\nrow 1.1\ncount 4\ncount 2\nrow 0.2\nrow 0.3\nrow 1.2\nrow 1.3\ncount 4\n";
 
 /// The layouts if all pending rows are merged.
@@ -124,7 +124,7 @@ const POLICIES: &[Script] = &[
         limit: GREATEST_LIMIT,
         is_plain: false,
         input: &[b"policy complete\n", TWO_PARTS],
-        replies: &[b"policy complete\n", TOLD, ALL_MERGED],
+        replies: &[b"policy complete\n", REPLIES, ALL_MERGED],
         how: How::InputEnded,
         statements: 14,
         first_short: None,
@@ -136,7 +136,7 @@ const POLICIES: &[Script] = &[
         input: &[b"policy gradual\n", TWO_PARTS],
         replies: &[
             b"policy gradual\n",
-            TOLD,
+            REPLIES,
             b"layout 0 rows 4 column 3 out 0 in 1 cells 4 free 0 pieces 2\npiece 0 15 1\npiece 15 100 2\n\
 layout 1 rows 4 column 3 out 0 in 1 cells 4 free 0 pieces 2\npiece 100 125 2\npiece 125 18446744073709551616 1\n",
         ],
@@ -151,7 +151,7 @@ layout 1 rows 4 column 3 out 0 in 1 cells 4 free 0 pieces 2\npiece 100 125 2\npi
         input: &[b"policy ripple\n", TWO_PARTS],
         replies: &[
             b"policy ripple\n",
-            TOLD,
+            REPLIES,
             b"layout 0 rows 4 column 3 out 0 in 1 cells 4 free 0 pieces 2\npiece 0 15 1\npiece 15 100 2\n\
 layout 1 rows 4 column 2 out 0 in 2 cells 4 free 0 pieces 2\npiece 100 125 2\npiece 125 18446744073709551616 0\n",
         ],
@@ -164,7 +164,7 @@ layout 1 rows 4 column 2 out 0 in 2 cells 4 free 0 pieces 2\npiece 100 125 2\npi
         limit: GREATEST_LIMIT,
         is_plain: false,
         input: &[b"policy auto\n", TWO_PARTS],
-        replies: &[b"policy auto\n", TOLD, ALL_MERGED],
+        replies: &[b"policy auto\n", REPLIES, ALL_MERGED],
         how: How::InputEnded,
         statements: 14,
         first_short: None,

@@ -104,12 +104,12 @@ fn lines_are_answered_before_the_next_read(rt: HostRuntime) {
         let log = Log::new();
         log_it(&rt, rt.alloc(), case, &log);
         let most = log.reads.get().saturating_add(1);
-        let told = [
+        let logged = [
             log.answered.get() as u64,
             log.flushes.get(),
             log.left.get() as u64,
         ];
-        assert_eq!(rt; told, [case.statements, most, 0]);
+        assert_eq!(rt; logged, [case.statements, most, 0]);
         assert!(rt; log.is_orderly.get() && log.writes.get() < most);
     }
 }

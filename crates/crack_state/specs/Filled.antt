@@ -1,5 +1,6 @@
--- A store whose column is in pieces, after pulls of a range that begin with fillers: pending insertions with keys
--- between a bound and the next one above it.
+-- A store whose column is in pieces, after pulls with fillers: pending insertions with keys from a bound, `edge`, up
+-- to the next one. A pull removes a doomed row: the last row of its piece takes its place, the last row of each higher
+-- piece below `edge` moves to the place right before that piece, and the filler takes the place that is left.
 use Rattle.std.specs.Prelude.{◌≡◌, ℕ, zero, suc, ◌+◌, ◌-◌, ◌≤◌, cond, min, List, [], ◌∷◌, ◌++◌, length, take, drop, reverse}
 use Rattle.std.specs.List.{All}
 use Rattle.crack_row.specs.Ranges.{Range, is_in}
@@ -12,20 +13,20 @@ use Rattle.crack_state.specs.Pieces.{Pieces, column_of, marks_of, cut}
 use Rattle.crack_state.specs.Carried.{inside_of, insertions_by}
 use Rattle.crack_state.specs.Pulled.{pulled, all_drawn, itself, pulled_by, buried_all}
 
--- the handles without the first `n` of those whose key is in the range
+-- the handles without the first `n`, or without all if they are fewer, of those whose key is in the range
 abbrev pub lacking : List (Cell Row) → Range → ℕ → List Handle → List Handle
 lacking cells r zero hs = hs
 lacking cells r (suc n) [] = []
 lacking cells r (suc n) (h ∷ hs) = cond (is_in r (key_at cells h)) (lacking cells r n hs) (h ∷ lacking cells r (suc n) hs)
 
--- the pieces below a mark, divided by the lower marks
+-- the pieces of the column before the place of the given mark; the list has the lower marks, which divide them
 abbrev pub pieces_under : State → List Mark → Mark → Pieces Handle
 pieces_under s low edge = cut 0 low (take edge.position s.column)
 
--- the store after the pulls of these doomed rows, each with one of these fillers. The fillers come in at the mark
--- `edge`, `low` and `high` are the marks below and above it, and `left` are the other pending insertions. Each
--- lower piece is as the pulls that reach it leave it, the fillers precede the rows at and after the mark, the last
--- filler first, and the doomed rows are buried in order of arrival
+-- the store after pulls of doomed rows, each with a filler. The arguments are, in order: the marks below the mark
+-- `edge`, `edge`, the marks above it, the doomed rows, as many fillers, the pending insertions without the fillers,
+-- and the store before. Each piece below `edge` is as the pulls leave it. Then come the fillers, the last one first,
+-- and then the rows that were at the place of `edge` or after it. The doomed rows are buried in their order
 abbrev pub filled_from : List Mark → Mark → List Mark → List Handle → List Handle → List Handle → State → State
 filled_from low edge high ds fs left s =
     let pieces = pulled (key_at s.cells) itself 0 ds (pieces_under s low edge) in
@@ -37,8 +38,9 @@ filled_from low edge high ds fs left s =
       tally = insertions_by (length fs) (pulled_by count s.tally);
     })
 
--- the first pulls of a range began with fillers, in order of arrival, until no doomed row of the range or no filler
--- was left; the fillers' keys begin at a bound, and no other bound is among them
+-- `t` is `s` after pulls in bulk of pending deletions with keys in the range `r`, each with a filler, a pending
+-- insertion with its key in the range `fillers`. Both were taken in order of arrival, until one kind was used up.
+-- `fillers` begins at a bound, and no other bound is among its keys
 pub record IsFilled (r fillers : Range) (s t : State) : Type 0 where
   pub low : List Mark
   pub edge : Mark

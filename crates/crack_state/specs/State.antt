@@ -1,4 +1,5 @@
--- A store as a record of lists, and its invariants.
+-- A store as a record of lists, and its invariants. A doomed row is one with a pending deletion. A row in hand is one
+-- that a merge moves: it is in neither the column nor the pending insertions.
 use Rattle.std.specs.Prelude.{◌≡◌, ℕ, ◌+◌, ◌<◌, ◌≤◌, ◌^◌, ◌-◌, ◌==◌, nat_lt, if◌then◌else◌, sum_by, List, ◌++◌, length, map, Option, Some, None, IsSome, IfSome}
 use Rattle.std.specs.List.{All, filter_map, range_with_len}
 use Rattle.crack_row.specs.Ranges.{Range, IsIn}
@@ -12,9 +13,10 @@ use Rattle.crack_arena.specs.Rows.{key_at}
 use Rattle.crack_column.specs.Column.{IsDividedAt}
 use Rattle.crack_state.specs.declared.MergeReport.{MergeReport}
 
--- the partition's keys, the cells and the free list of the arena, the column, the pending lists, the marks of the
--- index, the handle of each live serial, the tally of what merges counted, and for how many more handles the
--- column and the pending insertions have room
+-- a store: the partition's keys; the arena's cells, and the numbers of the free ones; the handles in the column, the
+-- pending insertions (`pending_in`) and the pending deletions (`pending_out`); the index's marks, which are bounds
+-- with their places; each live row's handle by its serial; what merges counted; and how many more handles fit into the
+-- column and the pending insertions
 pub record State : Type 0 where
   pub keys : Range
   pub cells : List (Cell Row)
@@ -28,17 +30,18 @@ pub record State : Type 0 where
   pub column_room : ℕ
   pub in_room : ℕ
 
--- a store with a handle in hand, whose cell is in none of its lists
+-- a store with one handle in hand; the handle's cell isn't in the column, the pending insertions or the free list
 pub record Carried : Type 0 where
   pub store : State
   pub hand : Handle
 
--- the handle reads a row
+-- the handle reads a row: its cell, among these cells, has a row and the handle's generation
 abbrev pub Reads : List (Cell Row) → Handle → Type 0
 Reads cells h = IsSome (read cells h)
 
--- each cell is in exactly one place: column, pending insertions, free list or hand; each handle reads a row; the
--- doomed handles are distinct, and each is in the column or the hand
+-- the number of each of the cells is in exactly one place: column, pending insertions, free list or `hand`, which is
+-- empty if no row is in hand. All handles in these places, and in the pending deletions, read rows. The pending
+-- deletions are distinct, and each is in the column or in `hand`
 pub record IsOwned (cells : List (Cell Row)) (free : List ℕ) (column pending_in pending_out hand : List Handle) : Type 0 where
   pub once : (n : ℕ) → times n (slots column ++ slots pending_in ++ free ++ slots hand) ≡ (if nat_lt n (length cells) then 1 else 0)
   pub column_reads : All (Reads cells) column
@@ -47,34 +50,35 @@ pub record IsOwned (cells : List (Cell Row)) (free : List ℕ) (column pending_i
   pub doomed_reads : All (Reads cells) pending_out
   pub doomed_once : (n : ℕ) → times n (slots pending_out) ≤ times n (slots column ++ slots hand)
 
--- every mark divides the keys: the keys below its bound come first, and its position is their number
+-- each mark divides the column's keys, in order: those below its bound come first, and its position is their number
 abbrev pub IsObeyed : List Mark → List ℕ → Type 0
 IsObeyed marks keys = All (λ (m : Mark). IsDividedAt m.bound.0 keys m.position) marks
 
--- the row that commands see in the cell with this number, if any: the cell's row, unless it is doomed
+-- the row that commands see in a cell: the cell's row, or `None` if the cell has none or its row is doomed. The
+-- arguments are the store's cells, the numbers of the doomed rows' cells, and this cell's number
 abbrev pub live_at : List (Cell Row) → List ℕ → ℕ → Option Row
 live_at cells doomed n = if times n doomed == 0 then (cell_at cells n).value else None
 
--- the rows that commands see, in the order of their cell numbers
+-- the store's live rows, which commands see: all rows but the doomed ones, in the order of their cells' numbers
 abbrev pub live_rows : State → List Row
 live_rows s = filter_map (live_at s.cells (slots s.pending_out)) (range_with_len 0 (length s.cells))
 
--- the map leads from a serial only to a handle of a row that has this serial and isn't doomed, and from the serial
--- of each such row to its handle
+-- the map `serials` leads from the serial of each row in the cells that isn't doomed to the row's handle, and from no
+-- other serial anywhere. `doomed` has the numbers of the doomed rows' cells
 pub record IsKeyed (cells : List (Cell Row)) (doomed : List ℕ) (serials : List (ℕ × Handle)) : Type 0 where
   pub leads : (serial : ℕ) (h : Handle) → handle_of serials serial ≡ Some h
       → (row : Row) × (read cells h ≡ Some row) × (row.serial.0 ≡ serial) × (times h.slot doomed ≡ 0)
   pub lists : (h : Handle) (r : Row) → read cells h ≡ Some r → times h.slot doomed ≡ 0 → handle_of serials r.serial.0 ≡ Some h
 
--- how often cells were freed
+-- how often these cells were freed, in total
 abbrev pub freed_of : List (Cell Row) → ℕ
 freed_of cells = sum_by (λ (c : Cell Row). c.generation) cells
 
--- the greatest number of a counter
+-- the greatest value of a counter
 abbrev pub greatest : ℕ
 greatest = 2 ^ 64 - 1
 
--- `R` relates each counter of one report to the same counter of the other
+-- `R` relates each counter of the report `before` to the same counter of the report `after`
 pub record EachCounter (R : ℕ → ℕ → Type 0) (before after : MergeReport) : Type 0 where
   pub insertions : R before.insertions after.insertions
   pub deletions : R before.deletions after.deletions
@@ -82,9 +86,11 @@ pub record EachCounter (R : ℕ → ℕ → Type 0) (before after : MergeReport)
   pub moved : R before.moved after.moved
   pub pulled : R before.pulled after.pulled
 
--- the invariants of a store with at most one row in hand: each cell is in one place; every bound is obeyed, and is
--- inside the partition; free cells have no value; every key is the partition's; the map of serials is right; and
--- every counter fits
+-- the invariants of a store; `hand` has the handle in hand, or is empty. Each cell is in one place (`IsOwned`). The
+-- marks rise; each divides the column's keys (`IsObeyed`), and its bound is strictly between the ends of the
+-- partition's keys. The map of serials leads to the rows that aren't doomed, and to no others. Free cells have no row,
+-- and each row's key is one of the partition's. There are fewer than 2^32 cells, at most `MOST_FREED` frees so far and
+-- pending deletions together, and no counter above `greatest`
 pub record IsIntact (s : State) (hand : List Handle) : Type 0 where
   pub owned : IsOwned s.cells s.free s.column s.pending_in s.pending_out hand
   pub obeyed : IsObeyed s.marks (map (key_at s.cells) s.column)

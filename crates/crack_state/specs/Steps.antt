@@ -1,4 +1,5 @@
--- The effect of each step on a store: the row that moves, the bounds that move with it, and the counter that rises.
+-- The effect of each step on a store. A word before a colon is the call with this effect. The hand is the handle in
+-- hand. The own piece of a key is the one to which rows with that key belong; the hand's is that of its key.
 use Rattle.std.specs.Prelude.{◌≡◌, ⊤, ℕ, ◌+◌, ◌-◌, ◌<◌, nat_lt, min, map, take, drop, length, count_by, List, [], ◌∷◌, ◌++◌, Option, Some, None, slice_index_or, slice_set}
 use Rattle.std.specs.List.{remove}
 use Rattle.crack_row.specs.Ranges.{IsIn}
@@ -25,14 +26,14 @@ piece_start s key = start_of (last_mark key s.marks)
 abbrev pub piece_end : State → ℕ → ℕ
 piece_end s key = end_of (length s.column) (next_mark key s.marks)
 
--- the marks, with this one (the lowest above a key, if there is one) and the higher ones at its place moved up by
--- one
+-- the marks, after the given one and those with higher bounds at the same place moved up by one place. The given one
+-- is the lowest above a key; if none is given, no mark moves
 abbrev pub raise_next : Option Mark → List Mark → List Mark
 raise_next None marks = marks
 raise_next (Some m) marks = map (raised m.bound.0 m.position) marks
 
--- the marks, with this one (the highest at or below a key, if there is one) and the lower ones at its place moved
--- down by one
+-- the marks, after the given one and those with lower bounds at the same place moved down by one place. The given one
+-- is the highest at or below a key; if none is given, no mark moves
 abbrev pub lower_last : Option Mark → List Mark → List Mark
 lower_last None marks = marks
 lower_last (Some m) marks = map (lowered m.bound.0 m.position) marks
@@ -41,12 +42,12 @@ lower_last (Some m) marks = map (lowered m.bound.0 m.position) marks
 abbrev pub IsDoomed : Carried → Type 0
 IsDoomed c = 0 < times c.hand.slot (slots c.store.pending_out)
 
--- one more, up to the greatest value of a counter
+-- a number plus one, but at most the greatest value of a counter
 abbrev pub more : ℕ → ℕ
 more n = min (n + 1) greatest
 
--- the hand takes a place of the column, and the handle that was there is in hand; the store gets these marks and
--- this tally
+-- the handle in hand goes to a place of the column, and the handle that was there is then in hand; the store gets
+-- these marks and this tally
 abbrev pub put_at : ℕ → List Mark → MergeReport → Carried → Carried
 put_at place marks tally c =
     record {
@@ -58,7 +59,7 @@ put_at place marks tally c =
       hand = slice_index_or c.store.column place c.hand;
     }
 
--- lift: the pending insertion at place `i`, counted from 0, is taken into the hand
+-- lift: the pending insertion at place `i` (from 0) is taken into the hand, and counts as one more insertion
 abbrev pub lifted : ℕ → State → Carried
 lifted i s =
     record {
@@ -69,7 +70,7 @@ lifted i s =
       hand = slice_index_or s.pending_in i no_handle;
     }
 
--- lift_last: the column's last handle is taken into the hand, and the bounds after it move down
+-- lift_last: the column's last handle is taken into the hand, and the bounds at the column's end move down by one
 abbrev pub lifted_last : State → Carried
 lifted_last s =
     record {
@@ -81,21 +82,24 @@ lifted_last s =
       hand = slice_index_or s.column (length s.column - 1) no_handle;
     }
 
--- push_on: the hand takes the place where its own piece ends, and the row that was there is in hand
+-- push_on: the hand takes the place where its own piece ends, and the row that was there is then in hand and counts as
+-- moved; the bounds at that place that are above the key of the row put there move up by one
 abbrev pub pushed_on : Carried → Carried
 pushed_on c =
     put_at (piece_end c.store (hand_key c)) (raise_next (next_mark (hand_key c) c.store.marks) c.store.marks) (record c.store.tally { moved = more c.store.tally.moved }) c
 
--- pull_back: the hand takes the last place before its own piece, and the row that was there is in hand
+-- pull_back: the hand takes the place right before its own piece, and the row that was there is then in hand and
+-- counts as pulled. So the own piece of the row put there begins one place earlier: of the bounds where it began, those
+-- at or below that row's key move down by one place, and those above it stay
 abbrev pub pulled_back : Carried → Carried
 pulled_back c =
     put_at (piece_start c.store (hand_key c) - 1) (lower_last (last_mark (hand_key c) c.store.marks) c.store.marks) (record c.store.tally { pulled = more c.store.tally.pulled }) c
 
--- exchange: the hand takes a place, and the row that was there is in hand
+-- exchange: the hand takes this place, and the row that was there is then in hand and counts as pulled; no bound moves
 abbrev pub exchanged : ℕ → Carried → Carried
 exchanged place c = put_at place c.store.marks (record c.store.tally { pulled = more c.store.tally.pulled }) c
 
--- append: the hand becomes the column's last row
+-- append: the hand becomes the column's last row, and the bounds above its key where its own piece ends move up by one
 abbrev pub appended : Carried → State
 appended c =
     record c.store {
@@ -104,7 +108,8 @@ appended c =
       column_room = c.store.column_room - 1;
     }
 
--- the carries of all pending insertions, if there is no bound: they are appended to the column, in order of arrival
+-- append_all: all pending insertions are appended to the column, in order of arrival, and counted as insertions. If
+-- there is no bound, their carries do the same
 abbrev pub all_appended : State → State
 all_appended s =
     record s {
@@ -113,7 +118,7 @@ all_appended s =
       tally = record s.tally { insertions = min (s.tally.insertions + length s.pending_in) greatest };
     }
 
--- bury: the hand, which is doomed, is removed from the pending deletions, and its cell is freed
+-- bury: the hand, which is doomed, is removed from the pending deletions and counts as deleted, and its cell is freed
 abbrev pub buried : Carried → State
 buried c =
     record c.store {
@@ -127,7 +132,7 @@ buried c =
 abbrev pub next_handle : State → Handle
 next_handle s = handle_for s.cells s.free
 
--- insert: a row in a new cell is appended to the pending insertions
+-- insert: this row, in a free cell or a new one, becomes the last pending insertion, and the map gets its serial
 abbrev pub row_inserted : Row → State → State
 row_inserted row s =
     record s {
@@ -138,14 +143,14 @@ row_inserted row s =
       in_room = s.in_room - 1;
     }
 
--- a row may be inserted: its serial isn't in the map, its key is the partition's, and a cell is free or one more
--- may be made
+-- this row may be inserted: its serial isn't in the map, its key is one of the partition's, and there is a free cell
+-- or fewer than `MOST_CELLS` cells
 pub record IsInsertable (row : Row) (s : State) : Type 0 where
   pub fresh : handle_of s.serials row.serial.0 ≡ None
   pub within : IsIn s.keys row.key.0
   pub cell : length s.cells < MOST_CELLS + length s.free
 
--- the two stores differ only in the room for handles
+-- `t` is `s`, except that the room for more handles in the column and in the pending insertions may differ
 pub record SameButRoom (s t : State) : Type 0 where
   pub same : t ≡ record s { column_room = t.column_room; in_room = t.in_room }
 
@@ -153,7 +158,7 @@ pub record SameButRoom (s t : State) : Type 0 where
 abbrev pub bounds_above : ℕ → List Mark → ℕ
 bounds_above key marks = count_by (λ (m : Mark). nat_lt key m.bound.0) marks
 
--- put_back: the hand is appended to the pending insertions
+-- put_back: the hand becomes the last pending insertion, and counts as evicted
 abbrev pub returned : Carried → State
 returned c =
     record c.store {
@@ -162,7 +167,7 @@ returned c =
       in_room = c.store.in_room - 1;
     }
 
--- the number of a ceiling, if there is one
+-- a ceiling as a number: that of its bound, or `None` if there is no ceiling
 abbrev pub ceiling_of : Option Bound → Option ℕ
 ceiling_of None = None
 ceiling_of (Some bound) = Some bound.0
@@ -172,13 +177,14 @@ abbrev pub IsBelow : Option ℕ → ℕ → Type 0
 IsBelow None key = ⊤
 IsBelow (Some bound) key = key < bound
 
--- the hand was pushed on any number of times: each time it wasn't doomed, its key was below the ceiling, and its
--- own piece ended before the column's end
+-- any number of `pushed_on` steps, or none, lead from the first state to the second; before each step the hand isn't
+-- doomed, its key is below the ceiling, if there is one, and its own piece ends before the column's end
 pub data PushesOn (ceiling : Option ℕ) : Carried → Carried → Type 0 where
   stays : (c : Carried) → PushesOn ceiling c c
   pushes : (c d : Carried) → ¬ IsDoomed c → IsBelow ceiling (hand_key c) → piece_end c.store (hand_key c) < length c.store.column → PushesOn ceiling (pushed_on c) d → PushesOn ceiling c d
 
--- the hand was pulled back any number of times: each time its own piece began after the place
+-- any number of `pulled_back` steps, or none, lead from the first state to the second; before each step the hand's own
+-- piece begins after `place`
 pub data PullsBack (place : ℕ) : Carried → Carried → Type 0 where
   stays : (c : Carried) → PullsBack place c c
   pulls : (c d : Carried) → place < piece_start c.store (hand_key c) → PullsBack place (pulled_back c) d → PullsBack place c d

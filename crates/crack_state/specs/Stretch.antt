@@ -7,11 +7,11 @@ use Rattle.crack_arena.specs.Arena.{read}
 use Rattle.crack_state.specs.State.{State}
 use Rattle.crack_state.specs.Merge.{edge}
 
--- the rows from one place of the column up to another, in order
+-- the rows at the column's places from the first number up to but not including the second, in order
 abbrev pub rows_within : State → ℕ → ℕ → List Row
 rows_within s from to = filter_map (read s.cells) (between from to s.column)
 
--- the rows between the places of a range's two ends
+-- the column's rows from the place of the range's low end up to that of its high end (`edge`), in order
 abbrev pub stretch_rows : State → Range → List Row
 stretch_rows s r = rows_within s (edge s r.low) (edge s r.high)
 

@@ -1,41 +1,46 @@
 -- What private clauses alone cite.
--- How rows that came in after the column's last row turn the pieces, from the lowest up: a row that turns a piece
--- is exchanged with the row that it turns, which then stands for it.
+-- How incoming rows pass the pieces of a column, from the lowest up. They begin in the tail: the places after the last
+-- piece. A row of the tail turns a piece if it belongs to a lower one and no carry ends with it: it is exchanged with
+-- the first of the piece's rows that wasn't exchanged yet, which is then carried on. `X` is what stands for a row.
 use Rattle.std.specs.Prelude.{ℕ, ◌+◌, Bool, true, not, ◌&&◌, cond, nat_lt, List, [], ◌∷◌, ◌++◌}
 
--- the rows of the piece, the rows after the column's last one, and how many rows moved
+-- what a sweep of one piece by the rows of the tail gives: the piece's rows, the tail, and how often rows moved
 pub record Swept (X : Type 0) : Type 0 where
   pub piece : List X
   pub tail : List X
   pub made : ℕ
 
--- the result with this many more rows moved
+-- the result of a sweep, with this many more moves
 abbrev pub with_more : {X : Type 0} → ℕ → Swept X → Swept X
 with_more count s = record s { made = count + s.made }
 
--- of the places after the column's last row, those that were passed: first those that turn no more, then the
--- others; and how many rows moved
+-- the rows of the tail that came to a piece so far, in order: first `done`, which aren't exchanged any more at this
+-- piece, then `queue`, which may be; `made` is how often rows moved
 pub record Round (X : Type 0) : Type 0 where
   pub done : List X
   pub queue : List X
   pub made : ℕ
 
--- whether a carry ends with a row in hand
+-- `stops` says whether a carry ends with a row in hand: it is doomed, or at or above a ceiling
 module _ {X : Type 0} (stops : X → Bool) where
-  -- whether a row goes on from a piece: it passes the test `own`, and no carry ends with it
+  -- whether the test is true of a row, and no carry ends with it. If the test is `own` of a piece, whether a row
+  -- belongs to it or to a lower one, the row then goes on from the piece
   abbrev pub goes_on : (X → Bool) → X → Bool
   goes_on own t = own t && not (stops t)
 
-  -- a row `t` turns a piece none of whose first rows is left: it takes the place of the first row of the queue
-  -- that goes on from the piece, and that row goes to the queue's end; the rows before it turn no more
+  -- a row `t` turns a piece whose rows were all exchanged before. It takes the place of the first row of the queue
+  -- that goes on from the piece, and that row goes to the queue's end. The rows before it, or all if none goes on, go
+  -- to `done`, and `t` after them. The test is `own` of the piece, and the lists are `done` and the queue
   abbrev pub round : (X → Bool) → X → List X → List X → Round X
   round own t done [] = record { done = done ++ t ∷ []; queue = []; made = 0 }
   round own t done (q ∷ qs) =
       cond (goes_on own q) (record { done = done ++ t ∷ []; queue = qs ++ q ∷ []; made = 1 }) (round own t (done ++ q ∷ []) qs)
 
-  -- the rows `ts` pass a piece in order: `under` says which of them turn it, and `own` which are in it or in a
-  -- lower piece. `rows` are those of its first rows that are left, `front` are the rows that took the places of
-  -- the others, and `done` and `queue` are those of a `Round`
+  -- a sweep of one piece. The arguments are, in order: the test `under`, whether a row belongs to a lower piece; the
+  -- test `own`, whether it belongs to this piece or to a lower one; `ts`, the rows of the tail that are still to come;
+  -- `front`, those that took the places of the piece's first rows; `rows`, the piece's other rows; and `done` and
+  -- `queue` of a `Round`. The next of `ts` turns the piece if it `goes_on` by `under`: it takes the place of the first
+  -- of `rows`, which goes to the end of `queue`, or makes a `round` if there is none. Otherwise it goes there itself
   abbrev pub swept : (X → Bool) → (X → Bool) → List X → List X → List X → List X → List X → Swept X
   swept under own [] front rows done queue = record { piece = front ++ rows; tail = done ++ queue; made = 0 }
   swept under own (t ∷ ts) front [] done queue =
@@ -44,9 +49,9 @@ module _ {X : Type 0} (stops : X → Bool) where
   swept under own (t ∷ ts) front (y ∷ ys) done queue =
       cond (goes_on under t) (with_more 1 (swept under own ts (front ++ t ∷ []) ys done (queue ++ y ∷ []))) (swept under own ts front (y ∷ ys) done (queue ++ t ∷ []))
 
--- `key` of each row, and whether a carry ends with it in hand
+-- `key` gives a row's key, and `stops` says whether a carry ends with the row in hand
 module _ {X : Type 0} (key : X → ℕ) (stops : X → Bool) where
-  -- whether a row is below a bound
+  -- whether a row's key is below this bound
   abbrev pub is_lower : ℕ → X → Bool
   is_lower low x = nat_lt (key x) low
 
@@ -54,6 +59,7 @@ module _ {X : Type 0} (key : X → ℕ) (stops : X → Bool) where
   abbrev pub any_lower : X → Bool
   any_lower x = true
 
-  -- the result after the rows `ts` passed a piece that begins at the bound `low` and has these rows
+  -- the result of a sweep of one piece by the rows `ts`, the first list, in order. `rows`, the second list, are the
+  -- piece's, and it begins at the bound `low`. The test is `own`: whether a row belongs to the piece or to a lower one
   abbrev pub swept_by : ℕ → (X → Bool) → List X → List X → Swept X
   swept_by low own ts rows = swept stops (is_lower low) own ts [] rows [] []

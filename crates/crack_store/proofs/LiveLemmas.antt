@@ -1,8 +1,10 @@
 -- The rows that commands see in cells, one after the other.
-use Rattle.std.proofs.Common.{◌≡◌, ℕ, ◌+◌, ◌<◌, ◌≤◌, List, [], ◌∷◌, ◌++◌, length, get_or, take, drop, Bool, true, Option, refl, sym, ap, ◌∙◌, inl, inr, arith, add-one, zero-add}
+use Rattle.std.proofs.Common.{◌≡◌, ℕ, ◌+◌, ◌-◌, ◌<◌, ◌≤◌, List, [], ◌∷◌, ◌++◌, length, get_or, take, drop, Bool, true, Option, refl, sym, ap, subst, ◌∙◌, inl, inr, arith, add-one, zero-add}
 use Rattle.std.specs.List.{cons_option, filter, filter_map, range_with_len}
-use Rattle.std.proofs.lemmas.List.{get_or-take, get_or-drop, get_or_append_left, get_or_push, length_push}
+use Rattle.std.proofs.lemmas.List.{append_assoc, append-nil, take_all, length-drop, take-append-drop, get_or-take, get_or-drop, get_or_append_left, get_or_push, length_push}
 use Rattle.std.proofs.lemmas.List.Elements.{filter-append, filter_map-append, All-weaker}
+use Rattle.std.proofs.lemmas.List.Sorted.{IsPermutation-trans, IsPermutation-append_left, IsPermutation-append_right, IsPermutation-append_comm}
+use Rattle.std.specs.List.Sorted.{IsPermutation}
 use Rattle.std.proofs.lemmas.Bool.{cases_lt}
 use Rattle.crack_row.proofs.Lists.{range_with_len-more, filter_all}
 use Rattle.crack_row.specs.Ranges.{IsIn, in_range}
@@ -18,12 +20,29 @@ longer : (n : ℕ) → range_with_len 0 (n + 1) ≡ range_with_len 0 n ++ n ∷ 
 longer n = rw add-one (rw (zero-add n) at (range_with_len-more 0 n))
 
 -- one more cell
-pub seen-next : (seen : ℕ → Option Row) (test : Row → Bool) (rows after : List Row) (slot : ℕ) (o : Option Row) → cons_option o [] ≡ filter test (cons_option (seen slot) []) → rows ≡ filter test (filter_map seen (range_with_len 0 slot)) → after ≡ rows ++ cons_option o [] → after ≡ filter test (filter_map seen (range_with_len 0 (slot + 1)))
-seen-next seen test rows after slot o shown so_far added =
+pub seen-next : (seen : ℕ → Option Row) (test : Row → Bool) (slot : ℕ) (o : Option Row) → cons_option o [] ≡ filter test (cons_option (seen slot) []) → filter test (filter_map seen (range_with_len 0 (slot + 1))) ≡ filter test (filter_map seen (range_with_len 0 slot)) ++ cons_option o []
+seen-next seen test slot o shown =
     let earlier = filter_map seen (range_with_len 0 slot) in
     let one : filter_map seen (slot ∷ []) ≡ cons_option (seen slot) [] = refl in
     let more : filter_map seen (range_with_len 0 (slot + 1)) ≡ earlier ++ filter_map seen (slot ∷ []) = ap (filter_map seen) (longer slot) ∙ filter_map-append seen (range_with_len 0 slot) (slot ∷ []) in
-    rw (added, so_far, shown, more, one, filter-append test earlier (cons_option (seen slot) [])) refl
+    rw (shown, more, one, filter-append test earlier (cons_option (seen slot) [])) refl
+
+-- the rows of the cells before this one and its own are those found, if they were before this one
+pub found-next : (seen : ℕ → Option Row) (test : Row → Bool) (slot : ℕ) (o : Option Row) (before after : List Row) → cons_option o [] ≡ filter test (cons_option (seen slot) []) → IsPermutation (filter test (filter_map seen (range_with_len 0 slot))) before → IsPermutation (before ++ cons_option o []) after → IsPermutation (filter test (filter_map seen (range_with_len 0 (slot + 1)))) after
+found-next seen test slot o before after shown so_far added =
+    subst (λ rows. IsPermutation rows after) (sym (seen-next seen test slot o shown)) (IsPermutation-trans _ _ _ (IsPermutation-append_left (cons_option o []) _ before so_far) added)
+
+-- a row that comes after two lists may as well come after the first
+pub row-between : (xs ys : List Row) (row : Row) → IsPermutation ((xs ++ ys) ++ row ∷ []) ((xs ++ row ∷ []) ++ ys)
+row-between xs ys row =
+    rw (append_assoc xs ys (row ∷ []), append_assoc xs (row ∷ []) ys) (IsPermutation-append_right xs _ _ (IsPermutation-append_comm ys (row ∷ [])))
+
+-- the last rows of the first list may as well come after the second
+pub rows-moved : (xs ys : List Row) (kept : ℕ) → IsPermutation ((xs ++ ys) ++ []) (take kept xs ++ (ys ++ take (length xs - kept) (drop kept xs)))
+rows-moved xs ys kept =
+    let last : take (length xs - kept) (drop kept xs) ≡ drop kept xs = take_all (length xs - kept) (drop kept xs) (omega (arith, length-drop kept xs)) in
+    let whole : xs ++ ys ≡ take kept xs ++ (drop kept xs ++ ys) = ap (λ zs. zs ++ ys) (sym (take-append-drop kept xs)) ∙ append_assoc (take kept xs) (drop kept xs) ys in
+    rw (last, append-nil (xs ++ ys), whole) (IsPermutation-append_right (take kept xs) _ _ (IsPermutation-append_comm (drop kept xs) ys))
 
 -- every live row's key is one of the partition's
 pub live-all : (s : State) → IsIntact s [] → filter (in_range s.keys) (live_rows s) ≡ live_rows s

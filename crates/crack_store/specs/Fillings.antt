@@ -1,6 +1,6 @@
 -- What private clauses alone cite.
--- What a walk that pulls doomed rows does at the bounds up to a given one, and the column after fillers take the
--- places before that bound.
+-- What a walk that pulls doomed rows does at the bounds up to `edge`; fillers then take the places before that of
+-- `edge`. A filler is a pending insertion with its key in the range `fillers`, which begins at `edge`.
 use Rattle.std.specs.Prelude.{◌≡◌, ℕ, ◌+◌, ◌-◌, ◌<◌, ◌≤◌, Contains, map, List, [], ◌∷◌, ◌++◌, length, take, drop, reverse}
 use Rattle.std.specs.List.{All}
 use Rattle.crack_row.specs.Ranges.{Range}
@@ -21,20 +21,21 @@ use Rattle.crack_state.specs.State.{State, IsIntact}
 use Rattle.crack_store.specs.declared.filling.DrainBelow.{DrainBelow}
 use Rattle.crack_store.specs.Drainings.{doomed_of, Empties, AreBuried}
 
--- the keys of a range begin at the bound of this mark of the index, and no other bound is among them
+-- the keys of the range begin at the bound of `m`, one of the marks, and none of the other bounds is among them
 pub record IsNextTo (fillers : Range) (marks : List Mark) (m : Mark) : Type 0 where
   pub there : Contains marks m
   pub same : m.bound.0 ≡ fillers.low
   pub beyond : All (λ n. fillers.low < n.bound.0 → fillers.high ≤ n.bound.0) marks
 
--- rows are pulled out of the piece below a bound, unless the bound is above `edge`
+-- from `v` to `w` the doomed rows are pulled out of the piece that the bound of `m` ends, and `end` is the bound's new
+-- place (`Empties`); but a bound above `edge` keeps its place, `end`, and nothing changes
 pub record EmptiesBelow (v : DrainBelow) (m : Mark) (end : ℕ) (w : DrainBelow) : Type 0 where
   pub under : m.bound.0 ≤ v.edge → Empties v.drain m end w.drain
   pub over : v.edge < m.bound.0 → (end ≡ m.position) × (w ≡ v)
   pub edge_is : w.edge ≡ v.edge
 
--- the first `count` rows of a range were taken out of a list and put into the column before a place, in reverse
--- order
+-- from the pending insertions `p` to `p'` the first `count` fillers were taken out; from the column `c` to `c'` they
+-- replaced the handles right before `place`, in reverse order. What both remember agrees with the rows
 pub record IsStocked (cells : List (Cell Row)) (fillers : Range) (place count : ℕ) (c : Column) (p : Pending) (c' : Column) (p' : Pending) : Type 0 where
   pub handles_are : c'.handles ≡ take (place - count) c.handles ++ (reverse (take count (inside_of cells fillers p.handles)) ++ drop place c.handles)
   pub pending_are : p'.handles ≡ lacking cells fillers count p.handles
@@ -44,14 +45,15 @@ pub record IsStocked (cells : List (Cell Row)) (fillers : Range) (place count : 
   pub in_room : p.room ≤ p'.room
   pub covered : p'.covered ≡ p.covered
 
--- a store after the pulls of doomed rows, each by one of the first fillers, which come in before the bound `edge`
+-- the store after the pulls of the doomed rows `ds`, each with one of the first fillers, in order of arrival; `low`
+-- are the marks below the mark `edge`, and `high` those above it
 abbrev pub filled_at : List Doomed → Range → List Mark → Mark → List Mark → State → State
 filled_at ds fillers low edge high s =
     filled_from low edge high (map doomed_handle ds) (take (length ds) (inside_of s.cells fillers s.pending_in)) (lacking s.cells fillers (length ds) s.pending_in) s
 
--- these doomed rows can be pulled, one after the other, each by a filler that comes in before the bound `edge`:
--- their keys are right, there are fillers for all of them, and the store is then intact, with each bound below
--- `edge` lower by the number of them below it
+-- the doomed rows `ds` can be pulled, one after the other, each with a filler. The key given with each handle is that
+-- of its row, and below `edge`; there are fillers for all; and after all pulls the store is intact, and the place of
+-- each bound below `edge` is lower by the number of doomed rows below that bound
 pub record CanBeFilled (ds : List Doomed) (fillers : Range) (edge : Mark) (s : State) : Type 0 where
   pub low : List Mark
   pub high : List Mark
@@ -65,7 +67,8 @@ pub record CanBeFilled (ds : List Doomed) (fillers : Range) (edge : Mark) (s : S
   pub long : length (column_of (pulled (key_at s.cells) itself 0 (map doomed_handle ds) (pieces_under s low edge))) + length ds ≡ edge.position
   pub buried : AreBuried (map doomed_handle ds) s.cells s.pending_out
 
--- doomed rows were pulled, each by a filler that came in before the bound `edge`
+-- `t` is the store `s` after the doomed rows `ds` were pulled, each with one of the first fillers, in order of
+-- arrival; the fillers take the places right before that of `edge`
 pub record FillsAs (ds : List Doomed) (fillers : Range) (edge : Mark) (s t : State) : Type 0 where
   pub low : List Mark
   pub high : List Mark

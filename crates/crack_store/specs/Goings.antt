@@ -4,7 +4,7 @@ use Rattle.std.specs.Prelude.{◌<◌, ℕ, Option, length}
 use Rattle.crack_state.specs.State.{Carried}
 use Rattle.crack_state.specs.Steps.{hand_key, piece_end, IsDoomed, IsBelow}
 
--- the carry goes on: no rule ends it yet
+-- no rule ends the carry: the hand isn't doomed, is below the ceiling, if any, and its piece ends before the column
 pub record GoesOn (ceiling : Option ℕ) (c : Carried) : Type 0 where
   pub lasting : ¬ IsDoomed c
   pub below : IsBelow ceiling (hand_key c)

@@ -5,7 +5,7 @@ use Rattle.crack_state.specs.State.{Carried}
 use Rattle.crack_store.specs.declared.inside.Inside.{Inside}
 use Rattle.crack_store.specs.Inside.{lists_of}
 
--- the cell in hand, which the column keeps aside
+-- the handle in hand, which the column keeps aside: after its last place
 abbrev pub hand_of : Inside → Handle
 hand_of p = (first_aside p.column).handle
 

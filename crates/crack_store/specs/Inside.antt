@@ -27,7 +27,7 @@ lists_of p = record {
 abbrev pub no_report : MergeReport
 no_report = record { insertions = 0; deletions = 0; evicted = 0; moved = 0; pulled = 0 }
 
--- an empty store: no cell and no bound
+-- a store for these keys, without rows, cells and bounds; the numbers are its `column_room` and its `in_room`
 abbrev pub no_cells : Range → ℕ → ℕ → State
 no_cells keys column_room in_room = record {
   keys = keys;
@@ -43,7 +43,7 @@ no_cells keys column_room in_room = record {
   in_room = in_room;
 }
 
--- a layout reports the lengths of a store's lists, and the pieces that its index makes
+-- `layout` has the number of the rows of `s` that aren't doomed, the lengths of its lists, and its pieces
 pub record IsLayoutOf (s : State) (layout : Layout) : Type 0 where
   pub rows : layout.rows ≡ length s.column - length s.pending_out + length s.pending_in
   pub column : layout.column ≡ length s.column

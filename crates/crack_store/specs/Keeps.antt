@@ -14,8 +14,9 @@ use Rattle.crack_store.specs.declared.carrying.Near.TheVariants.{Unsought, Above
 use Rattle.crack_store.specs.Inside.{lists_of}
 use Rattle.crack_store.specs.Hand.{hand_of}
 
--- the invariant of the parts of a store, with a hand or none: what the column and the pending lists remember is
--- right, the promised room for pending insertions is there, and any cell may become one
+-- the invariant of the parts of a store; `hand` has the handle in hand, or is empty. As lists they are intact
+-- (`IsIntact`). What the column and the pending lists remember agrees with their rows. The pending insertions have
+-- room for `in_room` more, and each cell may have a handle among them
 pub record KeepsIntact (p : Inside) (hand : List Handle) : Type 0 where
   pub intact : IsIntact (lists_of p) hand
   pub remembers : Remembers p.arena.cells p.column.handles p.column.remembered
@@ -24,19 +25,21 @@ pub record KeepsIntact (p : Inside) (hand : List Handle) : Type 0 where
   pub room : p.in_room ≤ p.pending_in.room
   pub covered : length p.arena.cells ≤ p.pending_in.covered
 
--- the bound kept from the last look-up, if any, is the least above the key
+-- what was kept of the last look-up fits this key: the bound of `Above` is the least of the marks above the key, or
+-- `None` if none is above it; for `Unsought`, which keeps nothing, nothing is required
 abbrev pub IsNear : List Mark → ℕ → Near → Type 0
 IsNear marks key Unsought = ⊤
 IsNear marks key (Above mark) = mark ≡ next_mark key marks
 
--- a cell is in hand, aside in the column: what is remembered of its row is right, and the column has room for it
+-- the parts of a store keep their invariant with a handle in hand. The column has it aside, after its last place, and
+-- has room for it; what is remembered of its row agrees with the row
 pub record HasHand (p : Inside) : Type 0 where
   pub kept : KeepsIntact p (hand_of p ∷ [])
   pub aside : 0 < length p.column.aside
   pub agrees : Agrees p.arena.cells (hand_of p) (first_aside p.column).memory
   pub room : 0 < p.column.room
 
--- a cell is in hand, and the bound kept from the last look-up is the least above its key
+-- a handle is in hand, as `HasHand` says, and the bound kept from the last look-up, if any, is the least above its key
 pub record KeepsHand (p : Inside) (near : Near) : Type 0 where
   pub has : HasHand p
   pub is_near : IsNear p.index.marks (key_at p.arena.cells (hand_of p)) near

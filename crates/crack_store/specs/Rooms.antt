@@ -6,12 +6,12 @@ use Rattle.crack_row.specs.declared.Row.{Row}
 use Rattle.crack_serials.specs.Serials.{HasRoom}
 use Rattle.crack_store.specs.declared.inside.Inside.{Inside}
 
--- the row at an index of a run, if both lists have one there
+-- the row at index `k` of a run that begins with the serial `first`; a key or a payload missing at `k` counts as 0
 abbrev pub row_of_run : ℕ → List ℕ → List ℤ → ℕ → Row
 row_of_run first keys payloads k =
     row_with (record { 0 = first + k }) (record { 0 = slice_index_or keys k 0 }) (record { 0 = slice_index_or payloads k (pos 0) })
 
--- so many rows, with serials from the first on, need no memory
+-- `count` rows, with serials from `first` on, can be inserted without taking memory
 pub record HasRooms (first count : ℕ) (p : Inside) : Type 0 where
   pub pending : count ≤ p.pending_in.room
   pub cells : count ≤ p.arena.room

@@ -9,19 +9,19 @@ use Rattle.crack_serials.specs.Serials.{handle_of}
 use Rattle.crack_state.specs.State.{State}
 use Rattle.crack_state.specs.Steps.{row_inserted}
 
--- the rows of two lists of keys and payloads, as many as the shorter list has; their serials begin with the first
+-- the rows with these keys and payloads, as many as the shorter list has; the serials rise by one from the given one
 abbrev pub run_rows : ℕ → List ℕ → List ℤ → List Row
 run_rows first (key ∷ keys) (payload ∷ payloads) =
     row_with (record { 0 = first }) (record { 0 = key }) (record { 0 = payload }) ∷ run_rows (suc first) keys payloads
 run_rows _ _ _ = []
 
--- the store after all rows were inserted, in order
+-- the store after these rows were inserted, in order
 abbrev pub rows_inserted : List Row → State → State
 rows_inserted [] s = s
 rows_inserted (row ∷ rows) s = rows_inserted rows (row_inserted row s)
 
--- rows with these keys may be inserted one after the other, with serials from the first on: no such serial is in the
--- map, the keys are the partition's, and so many cells are free or may be made
+-- rows with these keys, and serials that rise by one from `first`, may be inserted one after the other: no such serial
+-- is in the map, each key is one of the partition's, and for each row a cell is free or may be made
 pub record AreInsertable (first : ℕ) (keys : List ℕ) (s : State) : Type 0 where
   pub fresh : (serial : ℕ) → first ≤ serial → serial < first + length keys → handle_of s.serials serial ≡ None
   pub within : All (IsIn s.keys) keys

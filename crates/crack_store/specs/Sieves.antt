@@ -1,5 +1,6 @@
 -- What private clauses alone cite.
--- What a walk over the bounds from the highest down, which sifts rows through a column's pieces, does at a bound.
+-- What a walk over the bounds from the highest down does at a bound: incoming rows below it move past the piece above
+-- it. The walk's visitor, `v` before and `w` after that, has the incoming rows at the places `from..to`.
 use Rattle.std.specs.Prelude.{◌≡◌, ℕ, ◌+◌, ◌-◌, ◌<◌, ◌≤◌, min, List, length, slice_index_or}
 use Rattle.std.specs.List.{between}
 use Rattle.crack_arena.specs.Arena.{Cell, Handle, IsAbsent, no_handle}
@@ -12,12 +13,13 @@ use Rattle.crack_state.specs.State.{State, greatest}
 use Rattle.crack_state.specs.Steps.{piece_start, piece_end}
 use Rattle.crack_store.specs.declared.sifting.Sieve.{Sieve}
 
--- the rows that came in are in the column
+-- the places of the incoming rows, from `from` up to `to`, are in the column
 pub record IsSieveReady (v : Sieve) : Type 0 where
   pub order : v.from ≤ v.to
   pub within : v.to ≤ length v.column.handles
 
--- the rows that came in were sifted through the piece above a bound, which rises by `rise`
+-- from `v` to `w` the incoming rows were sifted through the piece above the bound of `m`, which rises by `rise`, the
+-- number of those below it. These are the incoming rows of `w`, from the place of `m` on
 pub record SievePasses (v : Sieve) (m : Mark) (rise : ℕ) (w : Sieve) : Type 0 where
   pub made : ℕ
   pub sifts : (cells : List (Cell Row)) → AreRead cells v.from v.to v.column → Sifts cells m.bound.0 m.position v.from v.to v.column w.column rise made
@@ -29,17 +31,17 @@ pub record SievePasses (v : Sieve) (m : Mark) (rise : ℕ) (w : Sieve) : Type 0 
   pub room : w.column.room ≡ v.column.room
   pub remembered : StillRemembers v.column w.column
 
--- the rows that came in are sifted at a bound that isn't after them, and the bound rises by the number of them
--- below it
+-- what a sieve does at a mark, whose bound rises by the number: as `SievePasses` says if the mark's place isn't after
+-- the first incoming row; otherwise nothing is required
 abbrev pub SieveRises : Sieve → Mark → ℕ → Sieve → Type 0
 SieveRises v m rise w = m.position ≤ v.from → SievePasses v m rise w
 
--- the row isn't among the first `count` rows of its piece
+-- the row of this handle isn't among the first `count` rows of its own piece, that of its key
 abbrev pub IsClear : ℕ → State → Handle → Type 0
 IsClear count s h =
     let from = piece_start s (key_at s.cells h) in
     IsAbsent (between from (min (piece_end s (key_at s.cells h)) (from + count)) s.column) h
 
--- no pending deletion is among the first `count` rows of its piece
+-- no doomed row of the store is among the first `count` rows of its own piece
 abbrev pub AreClear : ℕ → State → Type 0
 AreClear count s = (k : ℕ) → k < length s.pending_out → IsClear count s (slice_index_or s.pending_out k no_handle)

@@ -1,6 +1,8 @@
 -- What private clauses alone cite.
--- What a walk over the bounds from the lowest up does to a column whose pieces are turned by rows after its last
--- one.
+-- What a walk over the bounds from the lowest up does to a column to which rows were appended, from the place `from`
+-- on: these incoming rows pass the pieces and turn them (`swept`). `out`, the first list of handles, has the pending
+-- deletions: a carry ends with a doomed row in hand. `low` and `high` are the bounds at which a piece begins and ends;
+-- `high` is `None` for the last piece. `v` is the walk's visitor before a bound, `w` after it.
 use Rattle.std.specs.Prelude.{◌≡◌, ℕ, ◌+◌, ◌≤◌, Bool, false, ◌||◌, nat_lt, count_by, min, Option, Some, None, List, ◌++◌, length, take, drop}
 use Rattle.std.specs.List.{All, between}
 use Rattle.crack_arena.specs.Arena.{Cell, Handle, times, slots}
@@ -13,36 +15,35 @@ use Rattle.crack_state.specs.Sweeps.{Swept, goes_on, is_lower, any_lower, swept_
 use Rattle.crack_state.specs.State.{greatest}
 use Rattle.crack_store.specs.declared.sweeping.Sweep.{Sweep}
 
--- whether a carry ends with this row in hand: it is a pending deletion
+-- whether a carry ends with this row in hand: its cell is that of one of the pending deletions `out`
 abbrev pub ends_in : List Handle → Handle → Bool
 ends_in out h = nat_lt 0 (times h.slot (slots out)) || false
 
--- whether a row belongs to the piece that ends at this bound, or to one below it; every row does if there is no
--- bound
+-- whether a row belongs to the piece that ends at this bound (true without a bound) or to a lower one; `out` is unused
 abbrev pub up_to : List (Cell Row) → List Handle → Option InnerBound → Handle → Bool
 up_to cells out None = any_lower (key_at cells) (ends_in out)
 up_to cells out (Some bound) = is_lower (key_at cells) (ends_in out) bound.0
 
--- what becomes of the piece `rows`, which begins at the bound `low` and ends at `high`, and of the rows `ts` that
--- pass it
+-- the result after the incoming rows, the second list, passed a piece with these bounds and the rows in the third list
 abbrev pub sweep_of : List (Cell Row) → List Handle → ℕ → Option InnerBound → List Handle → List Handle → Swept Handle
 sweep_of cells out low high ts rows = swept_by (key_at cells) (ends_in out) low (up_to cells out high) ts rows
 
--- how many rows turn a piece that begins at the bound `low`
+-- how many rows of the second list turn a piece that begins at `low`: their keys are below it, and they aren't doomed
 abbrev pub going_on : List (Cell Row) → List Handle → ℕ → List Handle → ℕ
 going_on cells out low ts = count_by (goes_on (ends_in out) (is_lower (key_at cells) (ends_in out) low)) ts
 
--- how many rows go on from a piece that ends at the bound `high`
+-- how many rows of the second list go on from a piece that ends at `high`: with keys below it, if any, and not doomed
 abbrev pub leaving : List (Cell Row) → List Handle → Option InnerBound → List Handle → ℕ
 leaving cells out high ts = count_by (goes_on (ends_in out) (up_to cells out high)) ts
 
--- the rows from `from` on passed the piece from `start` up to `end`, of which `made` rows moved; all else is
--- unchanged
+-- from the column's `handles` to `handles'` the rows from the place `from` on passed the piece at the places from
+-- `start` up to `end`, and rows moved `made` times; all other handles are unchanged
 pub record Sweeps (cells : List (Cell Row)) (out : List Handle) (low : ℕ) (high : Option InnerBound) (start end from : ℕ) (handles handles' : List Handle) (made : ℕ) : Type 0 where
   pub handles_are : handles' ≡ take start handles ++ ((sweep_of cells out low high (drop from handles) (between start end handles)).piece ++ (between end from handles ++ (sweep_of cells out low high (drop from handles) (between start end handles)).tail))
   pub made_is : made ≡ (sweep_of cells out low high (drop from handles) (between start end handles)).made
 
--- the next piece is before the rows that came in, of which `count` turn it; none of them is below the floor
+-- the next piece begins at or before the place of the first incoming row, and `count` of the incoming rows turn it. If
+-- it begins at a bound at or below `floor`, all incoming rows have keys at or above `floor`
 pub record IsSweepReady (v : Sweep) : Type 0 where
   pub order : v.start ≤ v.from
   pub within : v.from ≤ length v.column.handles
@@ -51,7 +52,8 @@ pub record IsSweepReady (v : Sweep) : Type 0 where
   pub above : v.low ≤ v.floor.0 → All (λ h. v.floor.0 ≤ key_at v.arena.now.cells h) (drop v.from v.column.handles)
   pub small : v.moved ≤ greatest
 
--- the rows that came in passed the piece below a bound
+-- from `v` to `w` the incoming rows passed the next piece, whose high bound is that of `m`. `place` is the bound's new
+-- place: it rises by the number of rows that turn the piece after it
 pub record SweepPasses (v : Sweep) (m : Mark) (place : ℕ) (w : Sweep) : Type 0 where
   pub made : ℕ
   pub sweeps : Sweeps v.arena.now.cells v.pending_out.now.handles v.low (Some m.bound) v.start m.position v.from v.column.handles w.column.handles made
@@ -64,11 +66,12 @@ pub record SweepPasses (v : Sweep) (m : Mark) (place : ℕ) (w : Sweep) : Type 0
   pub moved_is : w.moved ≡ min (v.moved + made) greatest
   pub ready : IsSweepReady w
 
--- the rows that came in pass the piece below a bound, if the bound is before them and not below the one before
+-- at the mark the incoming rows pass the piece that its bound ends (`SweepPasses`), and `place` is the bound's new
+-- place. Nothing is required if the mark's place is before that piece or after `from`, or its bound below `low`
 abbrev pub SweepTurns : Sweep → Mark → ℕ → Sweep → Type 0
 SweepTurns v m place w = v.start ≤ m.position → m.position ≤ v.from → v.low ≤ m.bound.0 → SweepPasses v m place w
 
--- the rows that came in passed the last piece
+-- from `v` to `w` the incoming rows passed the last piece
 pub record IsSweptTo (v w : Sweep) : Type 0 where
   pub made : ℕ
   pub sweeps : Sweeps v.arena.now.cells v.pending_out.now.handles v.low None v.start v.from v.from v.column.handles w.column.handles made

@@ -19,10 +19,11 @@ impl Store {
         self.inside.index.is_empty()
     }
 
-    /// Appends all pending insertions to the column, in order of arrival. Without bounds, this has the result of
-    /// carrying them one after the other. If the column is empty, it takes over their memory, which takes O(1) for
-    /// each 64 cells, and no memory. Otherwise makes room for all of them at once, and takes O(pending insertions).
-    /// Refused with `OutOfMemory` if no memory is found; then nothing has changed.
+    /// Appends all pending insertions to the column, in order of arrival; there must be no bound. This has the result
+    /// of carrying them one after the other. If the column is empty, it takes over the memory of their list: that
+    /// takes O(1) for each 64 cells, O(pending insertions) if others were removed before, and no memory. Otherwise
+    /// room is made for all of them at once, and they are appended in O(pending insertions). Refused with
+    /// `OutOfMemory` if no memory is found; then nothing has changed.
     pub fn append_all(&mut self) -> Result<(), Refusal>
         requires { self.old.marks ≡ [] }
         ensures ok { OnOk result (SameButRoom (all_appended self.old) self.new) }
@@ -48,8 +49,9 @@ impl Store {
         Ok(())
     }
 
-    /// Makes the list of all pending insertions the column, which is empty. Takes no memory, and keeps no room for
-    /// pending insertions. O(1) for each 64 cells, and O(pending insertions) if others were removed before.
+    /// Makes the list of all pending insertions the column, which must be empty and without bounds. Takes no memory,
+    /// and keeps no room for pending insertions. O(1) for each 64 cells, and O(pending insertions) if others were
+    /// removed before.
     fn adopt_all(&mut self)
         requires uncracked { self.old.marks ≡ [] }
         requires empty { self.old.column ≡ [] }
@@ -65,8 +67,8 @@ impl Store {
     }
 }
 
-/// Appends the rows of a list to the column, in order, with their keys and payloads. O(rows) if the list has no
-/// holes; the cells are read in the order of the list.
+/// Appends the rows of a list to the column, in order, with their keys and payloads. The column must have room.
+/// O(rows) if the list has no holes; the cells are read in the order of the list.
 fn append_rows(column: &mut CrackerColumn, rows: &PendingIn, arena: &Arena<Row>)
     requires room { length rows.now.handles ≤ column.old.room }
     requires reads { All (Reads arena.now.cells) rows.now.handles }

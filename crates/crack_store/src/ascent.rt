@@ -48,8 +48,9 @@ impl Visitor for Ascent<'_> {
 
     ghost visits = { Ascends };
 
-    /// Pushes the hand on to the place, if the hand isn't doomed and is known to be below the ceiling, and the
-    /// place is in the column. Returns whether it did.
+    /// Pushes the hand on to the place, and returns true: the row that was there is then in hand. Returns false, and
+    /// changes nothing, if the hand is doomed, if it isn't known to be below the ceiling, or if the place isn't in the
+    /// column.
     #[inline(always)]
     fn visit(&mut self, place: usize) -> bool {
         if self.pending_out.contains(self.column.slot()) {
@@ -67,9 +68,9 @@ impl Visitor for Ascent<'_> {
     }
 }
 
-/// Pushes the hand on from place to place as long as it isn't doomed, is known to be below the ceiling, and its own
-/// piece ends before the column does. Returns the bound at which its piece then ends. O(log bounds + bounds at the
-/// places on its way); takes no memory.
+/// Pushes the hand on from place to place as long as it isn't doomed, is known to be below the ceiling, if any, and
+/// its own piece ends before the column does. Returns the least bound above the key of the row then in hand. O(log
+/// bounds + bounds at the places on its way); takes no memory.
 #[inline(always)]
 pub(crate) fn ascend(inside: &mut Inside, ceiling: Option<Bound>) -> Near
     requires { HasHand inside.old }
@@ -109,8 +110,9 @@ impl Visitor for Descent<'_> {
 
     ghost visits = { Draws };
 
-    /// Pulls the hand back to the place, unless it is below the field `place` or isn't in the column. Returns
-    /// whether it did. Notes the new place of the row that was in hand, if that row is doomed.
+    /// Pulls the hand back to the place, and returns true: the row that was there is then in hand. If the row that was
+    /// in hand is doomed, its new place is noted. Returns false, and changes nothing, if the place is before the field
+    /// `place` or isn't in the column.
     #[inline(always)]
     fn visit(&mut self, place: usize) -> bool {
         if place < self.place {
@@ -126,8 +128,8 @@ impl Visitor for Descent<'_> {
     }
 }
 
-/// Pulls the hand back from place to place as long as its own piece begins after `place`. O(log bounds + bounds at
-/// the places on its way); takes no memory.
+/// Pulls the hand back from place to place as long as its own piece begins after `place`. Each row that was in hand
+/// takes the last place before its own piece. O(log bounds + bounds at the places on its way); takes no memory.
 #[inline(always)]
 pub(crate) fn descend(inside: &mut Inside, place: usize)
     requires { HasHand inside.old }

@@ -26,9 +26,9 @@ pub(crate) enum Near {
     Above(Option<Mark>),
 }
 
-/// A store while a merge moves a row. That row is in hand: its cell is in no list, and the column keeps its tag
-/// aside, after the last place. So a step exchanges two of the column's tags and reads no generation. A `Carrying`
-/// can't be dropped: a last step returns the store.
+/// A store while a merge moves a row. That row is in hand: its cell is in neither the column nor the pending
+/// insertions, and the column keeps its tag aside, after the last place. So a step exchanges two of the column's tags
+/// and reads no generation. A `Carrying` can't be dropped: the last step of a carry or a pull returns the store.
 pub struct Carrying {
     pub(crate) inside: Inside,
     pub(crate) near: Near,
@@ -73,14 +73,14 @@ impl Carrying {
         self.inside.column.aside() == handle
     }
 
-    /// The number of rows in the column.
+    /// The number of rows in the column, including doomed ones, without the row in hand. O(1).
     pub fn column_len(&self) -> usize
         ensures { result ≡ length self.now.store.column }
     {
         self.inside.column.len()
     }
 
-    /// What merges have counted since the store was made.
+    /// What merges have counted since the store was made. O(1).
     pub fn tally(&self) -> MergeReport
         ensures { result ≡ self.now.store.tally }
     {
@@ -110,8 +110,8 @@ impl Carrying {
         self.inside.column.aside_key(&self.inside.arena)
     }
 
-    /// The least bound above the key in hand; `None` if no bound is above it. O(1) after a step up (`push_on`),
-    /// else O(log bounds).
+    /// The least bound above the key of the row in hand; `None` if no bound is above it. O(1) after a step up
+    /// (`push_on`), else O(log bounds).
     #[inline]
     pub(crate) fn bound_above(&self) -> Option<Mark>
         ensures { result ≡ next_mark (hand_key self.now) self.now.store.marks }
@@ -122,8 +122,8 @@ impl Carrying {
         }
     }
 
-    /// The place where the hand's own piece ends: the piece to which its key belongs. O(1) after a step up
-    /// (`push_on`), else O(log bounds).
+    /// The place where the piece ends to which the key of the row in hand belongs (the hand's own piece). O(1) after a
+    /// step up (`push_on`), else O(log bounds).
     pub fn piece_ends_at(&self) -> usize
         ensures value { result ≡ piece_end self.now.store (hand_key self.now) }
         ensures within { result ≤ length self.now.store.column }
@@ -154,7 +154,8 @@ impl Carrying {
         self.inside.tally.moved = self.inside.tally.moved.saturating_add(1);
     }
 
-    /// Exchanges the hand with the row at a place of its own piece. No bound moves. O(1).
+    /// Puts the row in hand at a place of its own piece, and takes the row that was there into the hand. No bound
+    /// moves. O(1); takes no memory.
     pub fn exchange(&mut self, place: usize)
         requires from { piece_start self.old.store (hand_key self.old) ≤ place }
         requires to { place < piece_end self.old.store (hand_key self.old) }
@@ -171,8 +172,8 @@ impl Carrying {
         self.inside.tally.pulled = self.inside.tally.pulled.saturating_add(1);
     }
 
-    /// Buries the row in hand, which is doomed: frees its cell, and removes it from the pending deletions.
-    /// Amortised O(1).
+    /// Buries the row in hand, which must be doomed: frees its cell, and removes it from the pending deletions.
+    /// Returns the store, with no row in hand. Amortised O(1).
     pub fn bury(self) -> Store
         requires { IsDoomed self }
         ensures after { result ≡ buried self }
@@ -186,7 +187,8 @@ impl Carrying {
         Store { inside }
     }
 
-    /// Evicts the row in hand, which isn't doomed: puts it after the last pending insertion. Takes no memory. O(1).
+    /// Evicts the row in hand, which must not be doomed: it becomes the last pending insertion, for which there must
+    /// be room (`make_room`). Returns the store, with no row in hand. Takes no memory. O(1).
     pub fn put_back(self) -> Store
         requires room { 0 < self.store.in_room }
         requires kept { times self.hand.slot (slots self.store.pending_out) ≡ 0 }
@@ -201,8 +203,10 @@ impl Carrying {
         Store { inside }
     }
 
-    /// Appends the hand to the column; its own piece must end where the column does. Each bound at that place above
-    /// its key moves up by one. O(1 + bounds at that place); without a step up before, O(log bounds) more.
+    /// Appends the row in hand, which must not be doomed, to the column. Its own piece must end where the column does,
+    /// and the column must have room (`make_room`). Each bound at the column's end that is above the row's key moves
+    /// up by one. Returns the store, with no row in hand. O(1 + bounds at that place); without a step up before, O(log
+    /// bounds) more.
     pub fn append(self) -> Store
         requires ends { piece_end self.store (hand_key self) ≡ length self.store.column }
         requires room { 0 < self.store.column_room }

@@ -8,16 +8,16 @@ use crack_index::Pass;
 use crack_row::{InnerBound, Key};
 
 impl Store {
-    /// A pass over at most `bounds` of the bounds above a key, the lowest first. It finds the bounds whose two
-    /// pieces have at most `rows` rows together. O(log bounds).
+    /// A pass over at most `bounds` of the bounds above a key, the lowest first. It finds each bound whose two pieces,
+    /// the one below it and the one above it, have at most `rows` rows together. O(log bounds).
     pub fn pass_after(&self, key: Key, rows: usize, bounds: usize) -> Pass
         ensures { result ≡ pass_above key.0 rows bounds self.now.marks }
     {
         self.inside.index.pass_after(key, rows, bounds)
     }
 
-    /// Forgets the next bound that a pass finds, and returns it; `None` at the end of the pass. Moves no row. Takes
-    /// no memory. O(log bounds + bounds that the pass meets).
+    /// Removes from the index the next bound that the pass finds, and returns it; `None`, with nothing removed, at the
+    /// end of the pass. Moves no row. Takes no memory. O(log bounds + bounds that the pass meets).
     pub fn forget_few(&mut self, pass: &mut Pass) -> Option<InnerBound>
         ensures found { (result, pass.new) ≡ next_few (length self.old.column) pass.old self.old.marks }
         ensures there { IfSome result (λ b. HasBound self.old.marks b.0) }

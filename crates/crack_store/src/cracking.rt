@@ -42,7 +42,7 @@ impl Gap {
 }
 
 impl Missing {
-    /// How many bounds are missing.
+    /// How many bounds are missing: 0 to 2. O(1).
     pub(crate) fn bounds(&self) -> usize
         ensures { result ≡ bounds_in self.now }
     {
@@ -76,7 +76,7 @@ pub(crate) fn gap_at(inside: &Inside, bound: Bound) -> Option<Gap>
     }
 }
 
-/// Where the keys of a piece end: at the bound above them, or at the end of the partition's keys.
+/// The high end of a piece's keys: the bound above them, or the high end of the partition's keys.
 fn end_of(piece: Piece, keys: KeyRange) -> Bound
     ensures { result.0 ≡ bound_or_end keys.high piece.high }
 {
@@ -86,9 +86,9 @@ fn end_of(piece: Piece, keys: KeyRange) -> Bound
     }
 }
 
-/// Makes the missing 16-bit codes of pending rows' keys if many are missing, so that later passes read codes instead
-/// of keys. Does nothing while there is no bound, since the first read may merge all pending rows. Amortised O(1) for
-/// each pending row. Contracts see no change.
+/// Makes the missing 16-bit codes of the keys of pending insertions if more than 64 are missing, and does the same for
+/// pending deletions, so that later passes read codes instead of keys. Does nothing while there is no bound, since the
+/// first read may merge all pending rows. Amortised O(1) for each pending row. Contracts see no change.
 #[inline]
 pub(crate) fn code_pending(inside: &mut Inside)
     ensures { inside.new ≡ inside.old }
@@ -100,8 +100,8 @@ pub(crate) fn code_pending(inside: &mut Inside)
     inside.pending_out.code_keys();
 }
 
-/// Which ends of the range are missing from the index. O(log bounds): each end is looked up once, and the high one
-/// only if it doesn't fall into the piece of the low one.
+/// Which ends of the range are missing from the index: not in it, though strictly between the ends of the partition's
+/// keys. O(log bounds): each end is looked up once, and the high one only if it isn't in the piece of the low one.
 #[inline(always)]
 pub(crate) fn missing_ends(inside: &Inside, range: KeyRange) -> Missing
     ensures { Misses (lists_of inside.now) range result }
@@ -125,7 +125,8 @@ pub(crate) fn missing_ends(inside: &Inside, range: KeyRange) -> Missing
     }
 }
 
-/// Cracks the column at the missing ends of a range. Takes no memory. O(size of their pieces + bounds).
+/// Cracks the column at the missing ends of the range, and adds them to the index, which must have room for them.
+/// `missing` is what `missing_ends` returns for the range. Takes no memory. O(size of their pieces + bounds).
 pub(crate) fn crack_at_ends(inside: &mut Inside, range: KeyRange, missing: Missing)
     requires intact { KeepsIntact inside.old [] }
     requires missing { Misses (lists_of inside.old) range missing }
@@ -147,8 +148,8 @@ pub(crate) fn crack_at_ends(inside: &mut Inside, range: KeyRange, missing: Missi
     }
 }
 
-/// Cracks in two the piece into which a missing bound falls, adds the bound to the index, and returns its place.
-/// Takes no memory. O(size of the piece + bounds).
+/// Cracks in two the piece into which a missing bound falls, adds the bound to the index, which must have room, and
+/// returns the bound's place. Takes no memory. O(size of the piece + bounds).
 fn crack_in(inside: &mut Inside, gap: Gap) -> usize
     requires intact { KeepsIntact inside.old [] }
     requires missing { MissesIn (lists_of inside.old) gap.bound.0 gap.piece }
@@ -167,8 +168,8 @@ fn crack_in(inside: &mut Inside, gap: Gap) -> usize
     place
 }
 
-/// Cracks in three the piece into which two missing bounds fall, and adds them to the index. Takes no memory.
-/// O(size of the piece + bounds).
+/// Cracks in three the piece into which the missing bounds `low` and `high` both fall, and adds them to the index,
+/// which must have room. Takes no memory. O(size of the piece + bounds).
 fn crack_together(inside: &mut Inside, low: Gap, high: InnerBound)
     requires intact { KeepsIntact inside.old [] }
     requires missing { FallTogether (lists_of inside.old) low high }

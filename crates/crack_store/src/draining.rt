@@ -34,10 +34,14 @@ pub(crate) const FEW_BOUNDS: usize = 64;
 const SHORT: usize = 4096;
 
 impl Store {
-    /// Pulls all pending deletions of a range in bulk, each by the column's last row. The result is that of pulling
-    /// them one after the other. Returns `false`, and changes nothing, if none are in the range, if few are and
-    /// there are many bounds, if one is in a long piece, or if no memory is found to list them. O(pending deletions
-    /// and holes + bounds), and for each row pulled O(bounds) and one search of its piece, which is short.
+    /// Pulls all pending deletions of a range in bulk, with the result of pulling them one after the other, each with
+    /// the column's last row, and returns `true`. Returns `false`, and changes nothing, if
+    /// - no pending deletion is in the range, or fewer than 16 are while there are more than 64 bounds;
+    /// - one of those in the range is in a piece of more than 4,096 rows;
+    /// - no memory is found to list those in the range.
+    ///
+    /// O(pending deletions and holes + bounds), and for each row pulled O(bounds) and one search of its piece, which
+    /// is short.
     pub fn pull_in_bulk(&mut self, range: KeyRange) -> bool
         ensures pulled { IsTrue result → self.new ≡ pulled_in_bulk range self.old }
         ensures left { IsTrue result → self.new.pending_out ≡ outside_of self.old.cells range self.old.pending_out }
@@ -84,8 +88,8 @@ pub(crate) fn doomed_in(
     Some(doomed)
 }
 
-/// Whether these pending deletions are worth a walk over all bounds: they aren't if they are few and there are many
-/// bounds, or if one is in a long piece. O(rows · log bounds).
+/// Whether pulling these pending deletions is worth a walk over all bounds. It isn't if there are fewer than 16 of
+/// them and more than 64 bounds, or if one of them is in a piece of more than 4,096 rows. O(rows · log bounds).
 pub(crate) fn is_worth_bulk(inside: &Inside, doomed: &[Doomed]) -> bool {
     if doomed.len() < FEWEST && FEW_BOUNDS < inside.index.len() {
         return false;
@@ -100,7 +104,8 @@ pub(crate) fn is_worth_bulk(inside: &Inside, doomed: &[Doomed]) -> bool {
     true
 }
 
-/// Pulls these pending deletions out of the column, and buries them.
+/// Pulls these pending deletions out of the column, in order, each with the column's last row, and then buries them in
+/// the same order.
 fn pull_rows(inside: &mut Inside, doomed: Vec<Doomed>)
     requires intact { KeepsIntact inside.old [] }
     requires doomed { CanBePulled doomed.items (lists_of inside.old) }
@@ -128,8 +133,8 @@ fn pull_rows(inside: &mut Inside, doomed: Vec<Doomed>)
     bury_all(inside, &doomed);
 }
 
-/// Pulls the doomed rows out of the last piece. All pulled rows are then the last ones of the column; removes them
-/// from it.
+/// Pulls the doomed rows out of the last piece. The rows pulled out of all pieces are then the column's last ones, and
+/// are removed from it.
 fn drain_last(drain: &mut Drain)
     requires { IsDrainReady drain.old }
     ensures { IsDrainedTo drain.old drain.new }
@@ -154,7 +159,8 @@ pub(crate) fn shorten(column: &mut CrackerColumn, len: usize)
     }
 }
 
-/// Removes these rows from the pending deletions, and frees their cells, in order.
+/// Removes these rows from the pending deletions, and frees their cells, in order. The list of pending deletions frees
+/// its memory if it becomes empty. Amortised O(1) for each row.
 pub(crate) fn bury_all(inside: &mut Inside, doomed: &[Doomed])
     requires { AreBuried (map doomed_handle doomed.now) inside.old.arena.cells inside.old.pending_out.handles }
     ensures buried { lists_of inside.new ≡ buried_all (map doomed_handle doomed.now) (lists_of inside.old) }
@@ -190,7 +196,9 @@ impl Placer for Drain {
 
     ghost places = { Empties };
 
-    /// Pulls the doomed rows out of the piece below the bound, and returns where that piece then ends.
+    /// Pulls the doomed rows out of the piece below the bound, and returns where that piece then ends: the bound's new
+    /// place. If the bound's place is before the next piece or past the column's end, returns that place, and changes
+    /// nothing.
     fn place(&mut self, mark: Mark) -> usize {
         let Mark { bound, position } = mark;
         if position < self.from || self.column.len() < position {

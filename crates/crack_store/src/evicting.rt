@@ -31,12 +31,17 @@ const BOUNDS_A_ROW: usize = 8;
 const ROWS_A_BOUND: usize = 256;
 
 impl Store {
-    /// Carries all pending insertions of a range in bulk under a ceiling; `first` is the place of the first of
-    /// them. The result is that of carrying them one after the other. Returns `false`, and changes nothing, if they
-    /// are few, if any row is doomed, if no bound is at the ceiling, or if no memory is found for all of them and
-    /// for the rows that they evict. Makes room for all of them at once. Makes two passes over the pending
-    /// insertions, or one if many are pending and there are few bounds, and two walks over the bounds; O(pieces
-    /// below the ceiling) for each row carried.
+    /// Carries all pending insertions of a range in bulk under a ceiling, with the result of carrying them one after
+    /// the other, and returns `true`. `first` is the place of the range's first one among all pending insertions.
+    /// Returns `false`, and changes nothing, if
+    /// - any row is doomed, or the ceiling isn't a bound of the index;
+    /// - fewer than two are in the range, or fewer than one for every eight bounds (not tested if more than 4,096
+    ///   insertions are pending in total, and at least 256 for each bound);
+    /// - no memory is found at once for all rows of the range and the rows that they evict, or, if the number of rows
+    ///   of the range wasn't tested, for as many rows as insertions are pending in total.
+    ///
+    /// Makes two passes over the pending insertions, the first to count those in the range; only one if their number
+    /// isn't tested. After that two walks over the bounds, and O(pieces below the ceiling) for each row carried.
     pub fn carry_under(&mut self, range: KeyRange, first: usize, ceiling: Bound) -> bool
         requires high { range.high ≤ ceiling.0 }
         requires first { Finds range (keys_at self.old.cells self.old.pending_in) 0 (Some first) }
@@ -73,7 +78,7 @@ impl Store {
     }
 }
 
-/// The bound at the ceiling, with its place; `None` if there is no such bound. O(log bounds).
+/// The bound whose number is the ceiling's, with its place; `None` if the index has no such bound. O(log bounds).
 fn mark_of(inside: &Inside, ceiling: Bound) -> Option<Mark>
     ensures there { IfSome result (λ m. Contains inside.now.index.marks m) }
     ensures same { IfSome result (λ m. m.bound.0 ≡ ceiling.0) }
@@ -86,15 +91,16 @@ fn mark_of(inside: &Inside, ceiling: Bound) -> Option<Mark>
     Some(mark)
 }
 
-/// Whether the pending insertions of a range are counted only as they are taken: so many are pending that counting
-/// those of a range first costs more than a walk over all bounds. O(1).
+/// Whether the pending insertions of a range are counted only as they are taken: more than 4,096 are pending, and at
+/// least 256 for each bound, so that counting those of a range first costs more than a walk over all bounds. O(1).
 fn is_counted_late(inside: &Inside) -> bool {
     let pending = inside.pending_in.len();
     MANY_PENDING < pending && inside.index.len() <= pending / ROWS_A_BOUND
 }
 
-/// At least the number of pending insertions of a range: that number itself, or, if counting them costs too much,
-/// the number of all pending insertions. `first` is the place of the first of them.
+/// A number that is at least that of the pending insertions of a range: that number itself, or the number of all
+/// pending insertions if `is_counted_late`. `first` is the place of the range's first one among all pending
+/// insertions. O(pending insertions), or O(1) if they aren't counted.
 fn most_in(inside: &mut Inside, range: KeyRange, first: usize) -> usize
     requires intact { KeepsIntact inside.old [] }
     requires first { Finds range (keys_at inside.old.arena.cells inside.old.pending_in.handles) 0 (Some first) }
@@ -108,13 +114,16 @@ fn most_in(inside: &mut Inside, range: KeyRange, first: usize) -> usize
     count_in(&mut inside.pending_in, range, first, &inside.arena)
 }
 
-/// Whether this many rows are too few for walks over all bounds. O(1).
+/// Whether this many rows are too few for walks over all bounds: fewer than two, or than one for every eight bounds.
+/// O(1).
 fn is_few(inside: &Inside, count: usize) -> bool {
     count < FEWEST || count < inside.index.len() / BOUNDS_A_ROW
 }
 
 /// Carries the pending insertions of a range under the ceiling at the bound `edge`; `first` is the place of the
-/// first of them. No row may be doomed, and there must be room for these rows and for those that they evict.
+/// range's first one among all pending insertions. No row may be doomed. There must be room for these rows and for
+/// those that they evict, and, in the empty lists `taken` and `known`, for the handles of these rows and what is
+/// remembered of them.
 fn carry_rows(
     inside: &mut Inside,
     range: KeyRange,
@@ -170,9 +179,10 @@ fn carry_rows(
     inside.tally.insertions = inside.tally.insertions.saturating_add(count as u64);
 }
 
-/// Takes the rows of a range out of the pending insertions `rows`, and puts them, in order, into the column from
-/// the place `from` on. Appends the rows that they replace to `rows`. `taken` gets the handles of the rows taken,
-/// and `known` what is remembered of them. Returns how many were taken.
+/// Takes the rows of a range out of the pending insertions `rows`, and stores them, in order, in the column from the
+/// place `from` on. Appends the rows that they replace to `rows`. The handles of the rows taken go to `taken`, and
+/// what is remembered of them to `known`, which must both be empty. All four lists must have room. Returns how many
+/// rows were taken. One pass over `rows`.
 fn exchange_rows(
     rows: &mut PendingIn,
     column: &mut CrackerColumn,
@@ -203,8 +213,9 @@ fn exchange_rows(
     taken.len()
 }
 
-/// Puts these handles into the column from the place `from` on, in order, each with what is remembered of its row.
-/// Appends the rows that they replace to the pending insertions `rows`. O(1) for each handle.
+/// Stores these handles in the column from the place `from` on, in order, each with what `known` remembers of its row.
+/// Appends the rows that they replace to the pending insertions `rows`. Both lists must have room. O(1) for each
+/// handle.
 fn put_rows(
     rows: &mut PendingIn,
     column: &mut CrackerColumn,
@@ -228,9 +239,9 @@ fn put_rows(
     }
 }
 
-/// Puts a handle at a place of the column, with what is remembered of its row; if nothing is, the row is read.
-/// Appends the row that was there to the pending insertions `rows`; if the place is the column's end, the handle
-/// becomes the last one. O(1).
+/// Stores a handle at a place of the column, with what is remembered of its row; if nothing is, the row is read.
+/// Appends the row that was there to the pending insertions `rows`. If the place is the column's end, no row was
+/// there, and the handle is appended to the column. O(1).
 fn put_at(
     rows: &mut PendingIn,
     column: &mut CrackerColumn,
@@ -257,9 +268,9 @@ fn put_at(
     }
 }
 
-/// Sifts the `count` rows of a sieve, which begin at the place of the bound `edge`, through the pieces below
-/// `edge`. Each lower bound moves up by the number of these rows that are below it; `edge` and the bounds above it
-/// move up only as far as they must to come after the rows. Returns the sieve. O(bounds).
+/// Sifts the `count` rows of a sieve, which begin at the place of the bound `edge`, through the pieces below `edge`.
+/// Each lower bound moves up by the number of these rows that are below it. `edge` and the bounds above it move up
+/// only if their places are among these rows: to the place after them. Returns the sieve. O(bounds).
 fn sift_below(index: &mut CrackerIndex, sieve: Sieve, edge: Mark, count: usize) -> Sieve
     requires ready { IsSieveReady sieve }
     requires some { 0 < count }
@@ -303,8 +314,8 @@ impl Raiser for CeilingSieve {
 
     ghost rises = { RisesUnder };
 
-    /// Sifts the rows through the piece above a bound, if the bound is below the ceiling, and returns how many are
-    /// below the bound; else returns how many rows came in.
+    /// How far the bound rises. If the bound is below the ceiling, sifts the rows through the piece above it, and
+    /// returns how many of them are below the bound; otherwise returns `count`, and changes nothing.
     fn rise(&mut self, mark: Mark) -> usize {
         if self.ceiling <= mark.bound.number() {
             return self.count;
@@ -330,7 +341,8 @@ impl Placer for CeilingStop {
 
     ghost places = { StandsUnder };
 
-    /// The place of a bound: its present one if it is below the ceiling, else its former one, but at least `least`.
+    /// The place for a bound: its present one if the bound is below the ceiling; otherwise the one that it had before
+    /// it rose by `count`, or `least` if that is greater.
     fn place(&mut self, mark: Mark) -> usize {
         if mark.bound.number() < self.ceiling {
             return mark.position;

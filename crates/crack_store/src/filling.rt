@@ -1,6 +1,6 @@
-//! Pulls the first pending deletions of a range in bulk, each by a filler. The doomed rows are taken out of the
-//! column's pieces, from the lowest up to a bound; the fillers take the places before the bound; and the doomed
-//! rows are buried in order of arrival.
+//! Pulls the first pending deletions of a range in bulk, each with a filler. The doomed rows are taken out of the
+//! column's pieces, from the lowest up to a bound; the fillers, pending insertions with keys from that bound up to the
+//! next one, take the places before the bound; and the doomed rows are buried in order of arrival.
 ghost use Rattle.std.specs.Prelude.{◌≡◌, ◌<◌, ◌≤◌, [], Some, length, All, Contains, IfSome, IsTrue, IsFalse};
 ghost use Rattle.crack_arena.specs.Rows.{keys_at};
 ghost use Rattle.crack_state.specs.Carried.{inside_of};
@@ -24,11 +24,15 @@ use crack_pending::PendingIn;
 use crack_row::{KeyNumber, KeyRange, Row};
 
 impl Store {
-    /// Pulls pending deletions of a range in bulk, each by a filler: a pending insertion whose key is in `fillers`;
-    /// `first` is the place of the first filler. Takes the deletions and the fillers in order of arrival, until one
-    /// kind is used up. The result is that of pulling them one after the other. Returns `false`, and changes
-    /// nothing, if there are many bounds, if no pending deletion is in the range, if one is in a long piece, if the
-    /// fillers' keys don't begin at a bound or another bound is among them, or if no memory is found for a list.
+    /// Pulls pending deletions of a range in bulk, each with a filler, with the result of pulling them one after the
+    /// other, and returns `true`. A filler is a pending insertion whose key is in `fillers`, and `first` is the place
+    /// of the first filler among all pending insertions. Takes the deletions and the fillers in order of arrival,
+    /// until one kind is used up. Returns `false`, and changes nothing, if
+    /// - there are more than 64 bounds;
+    /// - no pending deletion is in the range, or one of those in the range is in a piece of more than 4,096 rows;
+    /// - the index has no bound at the low end of `fillers`, or has another bound among its keys;
+    /// - no memory is found to list the pending deletions of the range.
+    ///
     /// O(pending rows and holes + bounds), and for each row pulled O(bounds) and one search of its piece, which is
     /// short.
     pub fn fill_in_bulk(&mut self, range: KeyRange, fillers: KeyRange, first: usize) -> bool
@@ -65,8 +69,8 @@ impl Store {
     }
 }
 
-/// The bound at which the fillers' keys begin, with its place; `None` if there is no such bound, or if another
-/// bound is among the keys. O(log bounds).
+/// The bound at which the range `fillers` begins, with its place. `None` if the index has no such bound, or if another
+/// bound is among the keys of the range. O(log bounds).
 fn edge_of(index: &CrackerIndex, fillers: KeyRange) -> Option<Mark>
     ensures { IfSome result (IsNextTo fillers index.now.marks) }
 {
@@ -83,8 +87,9 @@ fn edge_of(index: &CrackerIndex, fillers: KeyRange) -> Option<Mark>
     Some(mark)
 }
 
-/// Pulls these pending deletions out of the pieces below the bound `edge`, puts as many fillers before it, and
-/// buries the pending deletions. `first` is the place of the first filler.
+/// Pulls these pending deletions out of the pieces below the bound `edge`, stores as many fillers right before it, and
+/// buries the pending deletions. A filler is a pending insertion whose key is in `fillers`, and `first` is the place
+/// of the first one among all pending insertions.
 fn fill_rows(inside: &mut Inside, doomed: Vec<Doomed>, fillers: KeyRange, first: usize, edge: Mark)
     requires intact { KeepsIntact inside.old [] }
     requires first { Finds fillers (keys_at inside.old.arena.cells inside.old.pending_in.handles) 0 (Some first) }
@@ -130,8 +135,9 @@ fn fill_rows(inside: &mut Inside, doomed: Vec<Doomed>, fillers: KeyRange, first:
     bury_all(inside, &doomed);
 }
 
-/// Takes the first `count` fillers out of the pending insertions `rows`, and puts them into the column before
-/// `place`, in reverse order. `first` is the place of the first filler in `rows`.
+/// Takes the first `count` rows in the range `fillers` out of the pending insertions `rows`, and stores them in the
+/// column at the places right before `place`, in reverse order; the handles there are replaced. `first` is the place
+/// of the first such row in `rows`.
 fn put_fillers(
     rows: &mut PendingIn,
     column: &mut CrackerColumn,
@@ -177,8 +183,8 @@ impl Placer for DrainBelow {
 
     ghost places = { EmptiesBelow };
 
-    /// Pulls the doomed rows out of the piece below the bound, and returns where that piece then ends. Leaves a
-    /// bound above `edge` at its place.
+    /// Pulls the doomed rows out of the piece below the bound, and returns where that piece then ends: the bound's new
+    /// place. For a bound above `edge`, returns the bound's place, and changes nothing.
     fn place(&mut self, mark: Mark) -> usize {
         if self.edge < mark.bound.number() {
             return mark.position;

@@ -25,8 +25,8 @@ const FEWEST: usize = 3;
 /// The room for bounds that a range needs: two for each of its ends.
 pub(crate) const BOUNDS_BESIDE: usize = 4;
 
-/// Cracks beside each end of the range, the low one first, and then at its ends. Takes no memory.
-/// O(size of their pieces + bounds).
+/// Cracks beside each end of the range (`crack_beside`), the low one first, and then at both ends. The index must have
+/// room for four bounds. Takes no memory. O(size of their pieces + bounds).
 #[inline(never)]
 pub(crate) fn crack_further(inside: &mut Inside, range: KeyRange)
     requires intact { KeepsIntact inside.old [] }
@@ -40,8 +40,8 @@ pub(crate) fn crack_further(inside: &mut Inside, range: KeyRange)
     crack_at_ends(inside, range, missing);
 }
 
-/// Cracks at an end of the range and at its further bound, if the end says little about its piece; else changes
-/// nothing. Takes no memory. O(size of the piece + bounds).
+/// Cracks at `end`, an end of the range, and at its further bound (`further_bound`), if the end says little about its
+/// piece; otherwise changes nothing. Takes no memory. O(size of the piece + bounds).
 fn crack_beside(inside: &mut Inside, range: KeyRange, end: Bound)
     requires intact { KeepsIntact inside.old [] }
     requires end { (end.0 ≡ range.low) ⊎ (end.0 ≡ range.high) }
@@ -58,7 +58,7 @@ fn crack_beside(inside: &mut Inside, range: KeyRange, end: Bound)
     crack_at_ends(inside, ends, missing);
 }
 
-/// The range between two bounds, given in either order. Both must be among these keys or at their ends.
+/// The range between two bounds, given in either order. Neither may be above the high end of `keys`.
 fn range_between(keys: KeyRange, one: Bound, other: Bound) -> KeyRange
     requires one { one.0 ≤ keys.high }
     requires other { other.0 ≤ keys.high }
@@ -76,8 +76,9 @@ fn range_between(keys: KeyRange, one: Bound, other: Bound) -> KeyRange
     }
 }
 
-/// The further bound beside an end of the range; `None` if the end doesn't say little about its piece. O(log
-/// bounds).
+/// The further bound beside `end`, an end of the range: the median of the keys sampled in the end's piece, or that
+/// piece's low end plus one if that is greater. `None` unless the end says little about its piece: the piece is a
+/// `large_piece`, and neither end of the range divides the sampled keys well. O(log bounds).
 fn further_bound(inside: &Inside, range: KeyRange, end: Bound) -> Option<Bound>
     requires intact { KeepsIntact inside.now [] }
     ensures little { IfSome result (λ further. SaysLittle (lists_of inside.now) range end.0) }
@@ -95,8 +96,8 @@ fn further_bound(inside: &Inside, range: KeyRange, end: Bound) -> Option<Bound>
     Some(bound_at(middle, low_of(piece, inside.keys)))
 }
 
-/// The piece into which a bound falls. `None` if the bound isn't missing, the piece isn't large, or the index is
-/// empty. O(log bounds).
+/// The piece into which a missing bound falls. `None` if the piece has at most 2,048 rows, if the bound isn't missing
+/// (`gap_at`), or if the index has no bound. O(log bounds).
 fn large_piece(inside: &Inside, bound: Bound) -> Option<Piece>
     requires intact { KeepsIntact inside.now [] }
     ensures own { IfSome result (λ piece. piece ≡ own_piece (lists_of inside.now) bound.0) }
@@ -137,14 +138,14 @@ fn bound_at(key: KeyNumber, low: BoundNumber) -> Bound
     Bound::from_number((key as BoundNumber).max(low + 1))
 }
 
-/// Whether one of the range's ends divides the sampled keys well, by `divides_well`.
+/// Whether one of the range's ends divides the sampled keys well, as `divides_well` says.
 fn ends_divide_well(range: KeyRange, keys: &[KeyNumber; SAMPLES]) -> bool
     ensures { IsTrue result ↔ EndsDivideWell range keys.now }
 {
     divides_well(range.low(), keys) || divides_well(range.high(), keys)
 }
 
-/// The keys at nine places, spread evenly over a piece.
+/// The keys of the rows at nine places that are spread evenly over a piece.
 fn samples(inside: &Inside, piece: Piece) -> [KeyNumber; SAMPLES]
     requires intact { KeepsIntact inside.now [] }
     requires within { piece.to ≤ length inside.now.column.handles }
@@ -164,7 +165,7 @@ fn samples(inside: &Inside, piece: Piece) -> [KeyNumber; SAMPLES]
     ]
 }
 
-/// The key at one of the nine places, which `n` numbers from 0. O(1).
+/// The key of the row at the `n`-th, counted from 0, of nine places that are spread evenly over a piece. O(1).
 fn sampled(inside: &Inside, piece: Piece, n: usize) -> KeyNumber
     requires intact { KeepsIntact inside.now [] }
     requires within { piece.to ≤ length inside.now.column.handles }
@@ -177,7 +178,7 @@ fn sampled(inside: &Inside, piece: Piece, n: usize) -> KeyNumber
     inside.column.key_at(place, &inside.arena).number()
 }
 
-/// Whether at least three of the keys are below the bound, and at least three aren't.
+/// Whether at least three of the nine keys are below the bound, and at least three aren't.
 fn divides_well(bound: Bound, keys: &[KeyNumber; SAMPLES]) -> bool
     ensures { IsTrue result ↔ DividesWell bound.0 keys.now }
 {

@@ -28,6 +28,7 @@ pub(crate) struct Inside {
 
 // Written out, so that code that drops a store calls this function, and proves nothing about the fields.
 impl Drop for Inside {
+    /// Drops every part that has memory.
     fn drop(self) {
         let Inside {
             keys: _,

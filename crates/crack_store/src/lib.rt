@@ -5,7 +5,6 @@
 //! see a store as one record of plain lists.
 #![tactic(auto)]
 
-mod admitting;
 pub mod appending;
 mod ascent;
 pub mod carrying;
@@ -14,7 +13,9 @@ mod cracking;
 pub mod draining;
 pub mod evicting;
 pub mod filling;
+mod found;
 mod further;
+mod inserting;
 mod inside;
 pub mod live;
 mod notes;

@@ -6,46 +6,18 @@ ghost use Rattle.crack_row.specs.Ranges.{in_range};
 ghost use Rattle.crack_arena.specs.Arena.{slots};
 ghost use Rattle.crack_state.specs.State.{live_at, live_rows};
 ghost use Rattle.crack_state.specs.Stretch.{serial_of};
-ghost use Rattle.crack_store.specs.Found.{KeepsOrder, live_below};
+ghost use Rattle.crack_store.specs.Found.{KeepsOrder, all_of, live_below};
 
 use crate::Store;
+use crate::found::Found;
 use crack_arena::CellRun;
 use crack_row::{KeyRange, Refusal, Row};
 
-/// The live rows that a pass over the cells has found so far.
-#[derive(Drop)]
-pub(crate) struct Found {
-    rows: Vec<Row>,
-    /// Whether no serial is below the one before it.
-    is_rising: bool,
-    /// The last serial.
-    last: u64,
-}
-
-impl Found {
-    /// Adds a row, if there is one. O(1), amortised. Refused with `OutOfMemory` if no memory is found.
-    #[inline(always)]
-    fn add(&mut self, row: Option<Row>) -> Result<(), Refusal>
-        requires order { KeepsOrder self.old }
-        ensures rows { OnOk result (self.new.rows.items ≡ self.old.rows.items ++ cons_option row []) }
-        ensures order { OnOk result (KeepsOrder self.new) }
-        ensures err { IfErr result (λ e. e ≡ Refusal.OutOfMemory) }
-    {
-        let Some(row) = row else {
-            return Ok(());
-        };
-        self.rows.push(row)?;
-        let serial = row.serial.0;
-        self.is_rising &= self.last <= serial;
-        self.last = serial;
-        Ok(())
-    }
-}
-
 impl Store {
-    /// The live rows, by rising serial. Cracks and merges nothing. O(cells); O(n log n) more to sort the n rows if
-    /// their serials don't rise with the numbers of their cells: after an insert into a freed cell, or an update of
-    /// a row of the column, which takes another cell. Refused with `OutOfMemory` if no memory is found.
+    /// The live rows, by rising serial. Cracks and merges nothing. Finds the rows in the order of their cells'
+    /// numbers. O(cells); and, if the serials of k of the n rows are out of that order, O(k log k) more to sort these,
+    /// or O(n log n) more if k is above a quarter of n. An insert into a freed cell is out of order, and so is an
+    /// updated row of the column, which takes another cell. Refused with `OutOfMemory` if no memory is found.
     pub fn live_rows(&self) -> Result<Vec<Row>, Refusal>
         ensures rows { IfOk result (λ rows. IsPermutation (live_rows self.now) rows.items) }
         ensures rising { IfOk result (λ rows. IsNonDecreasingBy serial_of rows.items) }
@@ -55,41 +27,31 @@ impl Store {
         self.live_rows_in(self.inside.keys, self.inside.serials.len())
     }
 
-    /// The live rows whose key is in a range, by rising serial. Cracks and merges nothing. The list is made with
-    /// room for `expected` rows, at most all live ones, and grows if there are more. O(cells) if serials rise with
-    /// the cells' numbers, in whose order the cells are read; else O(cells + m log m) for m rows. Refused with
-    /// `OutOfMemory` if no memory is found.
+    /// The live rows whose keys are in a range, by rising serial. Cracks and merges nothing. The list is made with
+    /// room for `expected` rows, or for all live rows if these are fewer, and grows if more are found. O(cells); and,
+    /// if the serials of k of the m rows found are out of the order of their cells' numbers, O(k log k) more, or O(m
+    /// log m) more if k is above a quarter of the room. Refused with `OutOfMemory` if no memory is found.
     pub fn live_rows_in(&self, range: KeyRange, expected: usize) -> Result<Vec<Row>, Refusal>
         ensures rows { IfOk result (λ rows. IsPermutation (filter (in_range range) (live_rows self.now)) rows.items) }
         ensures rising { IfOk result (λ rows. IsNonDecreasingBy serial_of rows.items) }
         ensures err { IfErr result (λ e. e ≡ Refusal.OutOfMemory) }
     {
-        let Found {
-            mut rows,
-            is_rising,
-            ..
-        } = self.rows_by_cells(range, expected)?;
-        if !is_rising {
-            rows.sort_unstable_by_key(|row| row.serial.0);
-        }
-        Ok(rows)
+        self.rows_by_cells(range, expected)?.into_rows()
     }
 
-    /// The live rows whose key is in a range, in the order of their cells' numbers, in a list that is made with room
-    /// for `expected` rows. O(cells).
+    /// The live rows whose keys are in a range, found in the order of their cells' numbers, in a list that is made
+    /// with room for `expected` rows, or for all live rows if these are fewer. O(cells), amortised. Refused with
+    /// `OutOfMemory` if no memory is found.
     fn rows_by_cells(&self, range: KeyRange, expected: usize) -> Result<Found, Refusal>
-        ensures rows { IfOk result (λ found. found.rows.items ≡ filter (in_range range) (live_rows self.now)) }
+        ensures rows { IfOk result (λ found.
+            IsPermutation (filter (in_range range) (live_rows self.now)) (all_of found)) }
         ensures order { IfOk result (λ found. KeepsOrder found) }
         ensures err { IfErr result (λ e. e ≡ Refusal.OutOfMemory) }
     {
         self.recall_invariant();
         let serials = &self.inside.serials;
         let room = expected.min(serials.len());
-        let mut found = Found {
-            rows: Vec::with_capacity(*serials.allocator(), room)?,
-            is_rising: true,
-            last: 0,
-        };
+        let mut found = Found::with_room(*serials.allocator(), room)?;
         let mut slot = 0;
         'runs: while slot < self.inside.arena.cells() {
             let run = self.inside.arena.cells_from(slot as u32);
@@ -99,8 +61,9 @@ impl Store {
         Ok(found)
     }
 
-    /// Adds the live rows of a run of cells whose key is in a range to those of the cells before it. The run begins
-    /// with the cell `slot`. O(cells).
+    /// Adds to `found` the live rows in the run `cells` whose keys are in the range. The run begins with the cell
+    /// `slot`, and `found` has those of the cells before it. O(cells of the run). Refused with `OutOfMemory` if no
+    /// memory is found.
     fn add_live(
         &self,
         found: &mut Found,
@@ -111,9 +74,10 @@ impl Store {
         requires cells { cells.now ≡ take (length cells.now) (drop slot self.now.cells) }
         requires within { slot + length cells.now ≤ length self.now.cells }
         requires few { length self.now.cells < 4294967296 }
-        requires rows { found.old.rows.items ≡ live_below range slot self.now }
+        requires rows { IsPermutation (live_below range slot self.now) (all_of found.old) }
         requires order { KeepsOrder found.old }
-        ensures rows { OnOk result (found.new.rows.items ≡ live_below range (slot + length cells.now) self.now) }
+        ensures rows { OnOk result
+            (IsPermutation (live_below range (slot + length cells.now) self.now) (all_of found.new)) }
         ensures order { OnOk result (KeepsOrder found.new) }
         ensures err { IfErr result (λ e. e ≡ Refusal.OutOfMemory) }
     {
@@ -123,8 +87,8 @@ impl Store {
         Ok(())
     }
 
-    /// The row, if it is live and its key is in a range, at this place of a run that begins with the cell `slot`.
-    /// O(1).
+    /// The row in the cell at this place of the run `cells`, which begins with the cell `slot`; `None` if the cell has
+    /// no row, the row is doomed, or its key isn't in the range. O(1).
     #[inline(always)]
     fn live_in(
         &self,

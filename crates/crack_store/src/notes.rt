@@ -13,14 +13,14 @@ pub(crate) struct Notes {
 }
 
 impl Notes {
-    /// No notes. Takes no memory.
+    /// Notes without a place for any cell. Takes no memory.
     pub(crate) fn new(alloc: Global) -> Notes {
         Notes {
             places: Vec::new(alloc),
         }
     }
 
-    /// Takes the notes, and leaves none in their place. Takes no memory.
+    /// Returns the notes, and leaves empty ones in their place. Takes no memory.
     pub(crate) fn take(&mut self) -> Notes
         ensures { result ≡ self.old }
     {
@@ -39,14 +39,16 @@ impl Notes {
         Ok(())
     }
 
-    /// Notes a place for the cell, if there is room for its note. O(1).
+    /// Notes that the row of the cell `slot` is at this place of the column, if there is room for a note of the cell.
+    /// O(1).
     pub(crate) fn put(&mut self, slot: u32, place: usize) {
         if let Some(note) = self.places.get_mut(slot as usize) {
             *note = place.min(u32::MAX as usize) as u32;
         }
     }
 
-    /// The place noted for the cell. If none was noted, a number that is no place of the column. O(1).
+    /// The place noted for the row of the cell `slot`; if none was noted, a number that is no place of the column.
+    /// O(1).
     pub(crate) fn get(&self, slot: u32) -> usize {
         match self.places.get(slot as usize) {
             Some(place) => *place as usize,
@@ -55,7 +57,7 @@ impl Notes {
     }
 }
 
-/// Adds notes that name no place of the column until there are as many notes as cells.
+/// Adds notes that name no place of the column until there are `cells` notes. There must be room for them.
 fn fill_up_to(places: &mut Vec<u32>, cells: usize)
     requires { cells ≤ vec_capacity places.old }
 {

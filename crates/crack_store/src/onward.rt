@@ -15,7 +15,7 @@ use crack_row::{KeyRange, Refusal, Row};
 
 impl Carrying {
     /// Makes room for two more rows in the column and two more pending insertions: for the hand and one more row.
-    /// Refused with `OutOfMemory` if no memory is found; then nothing has changed.
+    /// O(1), except for growth. Refused with `OutOfMemory` if no memory is found; then nothing has changed.
     pub fn make_room(&mut self) -> Result<(), Refusal>
         ensures same { SameButRoom self.old.store self.new.store }
         ensures hand { self.new.hand ≡ self.old.hand }
@@ -35,7 +35,8 @@ impl Carrying {
     }
 
     /// Appends the row in hand, as `append` does, and takes the pending insertion at this place into the hand, as
-    /// `lift` does. Costs what the two do, and moves no store.
+    /// `lift` does. The column must have room for both rows (`make_room`). Costs what the two cost together, and
+    /// doesn't move the store in memory.
     pub fn append_and_lift(&mut self, place: usize)
         requires ends { piece_end self.old.store (hand_key self.old) ≡ length self.old.store.column }
         requires room { 1 < self.old.store.column_room }
@@ -50,7 +51,7 @@ impl Carrying {
     }
 
     /// Buries the row in hand, as `bury` does, and takes the pending insertion at this place into the hand, as `lift`
-    /// does. Costs what the two do, and moves no store.
+    /// does. Costs what the two cost together, and doesn't move the store in memory.
     pub fn bury_and_lift(&mut self, place: usize)
         requires doomed { IsDoomed self.old }
         requires there { place < length self.old.store.pending_in }
@@ -62,7 +63,7 @@ impl Carrying {
     }
 
     /// Buries the row in hand, as `bury` does, and takes the column's last row into the hand, as `lift_last` does.
-    /// Costs what the two do, and moves no store.
+    /// Costs what the two cost together, and doesn't move the store in memory.
     pub fn bury_and_lift_last(&mut self)
         requires doomed { IsDoomed self.old }
         requires some { 0 < length self.old.store.column }
@@ -75,7 +76,8 @@ impl Carrying {
     }
 
     /// Evicts the row in hand, as `put_back` does, so that it is the last pending insertion; then takes the pending
-    /// insertion at this place into the hand, as `lift` does. Costs what the two do, and moves no store.
+    /// insertion at this place into the hand, as `lift` does. Costs what the two cost together, and doesn't move the
+    /// store in memory.
     pub fn put_back_and_lift(&mut self, place: usize)
         requires room { 0 < self.old.store.in_room }
         requires kept { times self.old.hand.slot (slots self.old.store.pending_out) ≡ 0 }
@@ -87,9 +89,10 @@ impl Carrying {
         self.near = take_in(&mut self.inside, place);
     }
 
-    /// The place of the first pending insertion at or after `from` whose key is in the range; `None` if there is
-    /// none. O(1) for each that it passes; it looks at none if the range holds all of the partition's keys. The
-    /// next lift starts from the place found, so that finding and lifting a row is one pass.
+    /// The place of the first pending insertion at or after `from` whose key is in the range; `None` if there is none.
+    /// If the range has all of the partition's keys, the place is `from` itself, if an insertion is there, and none is
+    /// looked at. Otherwise O(1) for each that it passes, and the next lift starts from the place found, so that
+    /// finding and lifting a row is one pass.
     pub fn seek_in(&mut self, range: KeyRange, from: usize) -> Option<usize>
         ensures finds { Finds range (keys_at self.old.store.cells self.old.store.pending_in) from result }
         ensures same { self.new ≡ self.old }
@@ -104,8 +107,9 @@ impl Carrying {
         inside.pending_in.seek_in(range, from, &inside.arena)
     }
 
-    /// The place of the first pending deletion at or after `from` whose key is in the range; `None` if there is
-    /// none. The next look-up starts from it. O(1) for each that it passes.
+    /// The place of the first pending deletion at or after `from` whose key is in the range; `None` if there is none.
+    /// O(1) for each that it passes. The next call of `doomed` starts from the place found, so that finding and
+    /// reading a pending deletion is one pass.
     pub fn seek_out(&mut self, range: KeyRange, from: usize) -> Option<usize>
         ensures finds { Finds range (keys_at self.old.store.cells self.old.store.pending_out) from result }
         ensures same { self.new ≡ self.old }
@@ -114,7 +118,8 @@ impl Carrying {
         inside.pending_out.seek_in(range, from, &inside.arena)
     }
 
-    /// The pending deletion at this place, in order of arrival. O(1) at the place that was looked up last.
+    /// The pending deletion at this place, in order of arrival. O(1) if the list has no holes, or at the place that
+    /// `seek_out` found last; else O(pending deletions and holes).
     pub fn doomed(&self, place: usize) -> Handle<Row>
         requires { place < length self.now.store.pending_out }
         ensures { StandsAt self.now.store.pending_out place result }
@@ -122,7 +127,7 @@ impl Carrying {
         self.inside.pending_out.at(place)
     }
 
-    /// The number of pending insertions.
+    /// The number of pending insertions. O(1).
     pub fn pending_in(&self) -> usize
         ensures { result ≡ length self.now.store.pending_in }
     {

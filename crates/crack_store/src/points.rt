@@ -18,7 +18,7 @@ use crack_row::{Key, Payload, Refusal, Row, Serial};
 use crack_serials::Lead;
 
 impl Store {
-    /// The row with this serial; `None` if there is no such row. O(1).
+    /// The row with this serial that isn't doomed; `None` if there is none. O(1).
     pub fn row_of(&self, serial: Serial) -> Option<Row>
         ensures value { result ≡ row_by self.now serial.0 }
         ensures none { IfNone result (handle_of self.now.serials serial.0 ≡ None) }
@@ -29,7 +29,7 @@ impl Store {
         }
     }
 
-    /// How many times cells were freed since the store was made.
+    /// How many times cells were freed since the store was made. O(1).
     pub fn freed(&self) -> u64
         ensures { result ≡ freed_of self.now.cells }
     {
@@ -37,8 +37,9 @@ impl Store {
     }
 
     /// Removes the row with this serial, and returns it; `None` if there is no such row. A pending insertion is
-    /// cancelled, and a row of the column is doomed. The serial is looked up once. Amortised O(1). Refused with
-    /// `OutOfMemory` if no memory is found for a row of the column; then nothing has changed.
+    /// cancelled: its cell is freed. A row of the column is doomed: it becomes a pending deletion. The serial is
+    /// looked up once. Amortised O(1). Refused with `OutOfMemory` if no memory is found to doom a row; then nothing
+    /// has changed.
     pub fn remove(&mut self, serial: Serial) -> Result<Option<Row>, Refusal>
         requires { MayFree self.old }
         ensures row { IfOk result (λ row. row ≡ row_by self.old serial.0) }
@@ -60,8 +61,8 @@ impl Store {
         Ok(Some(row))
     }
 
-    /// Removes the pending insertion with this serial, and returns its row. Its cell is then free. Takes no memory.
-    /// Amortised O(1).
+    /// Removes the pending insertion with this serial, which must exist, and returns its row. Its cell is then free.
+    /// Takes no memory. Amortised O(1).
     pub fn cancel(&mut self, serial: Serial) -> Row
         requires pending { pending_by self.old serial.0 ≡ Some true }
         requires few { MayFree self.old }
@@ -89,7 +90,7 @@ impl Store {
         self.doom_at(lead)
     }
 
-    /// Removes a pending insertion whose serial was looked up, and returns its row. Takes no memory. Amortised
+    /// Removes a pending insertion, whose serial's entry is `lead`, and returns its row. Takes no memory. Amortised
     /// O(1).
     fn cancel_at(&mut self, lead: Lead) -> Row
         requires entry { IsLead lead self.old.serials }
@@ -106,8 +107,8 @@ impl Store {
         free(&mut self.inside.arena, handle)
     }
 
-    /// Dooms a row of the column whose serial was looked up, and returns it. O(1), except for growth. Refused as
-    /// `doom` is.
+    /// Dooms a row of the column, whose serial's entry is `lead`, and returns it. O(1), except for growth. Refused
+    /// with `OutOfMemory` if no memory is found; then nothing has changed.
     fn doom_at(&mut self, lead: Lead) -> Result<Row, Refusal>
         requires entry { IsLead lead self.old.serials }
         requires found { handle_of self.old.serials lead.serial.0 ≡ Some lead.handle }
@@ -133,9 +134,9 @@ impl Store {
         Ok(row)
     }
 
-    /// Replaces the row with the same serial, if there is one, as `rewrite` does. Returns the row as it was; `None`
-    /// if there is no such row. The serial is looked up once. O(1), except for growth. Refused with `OutOfMemory`
-    /// if no memory is found for a row of the column; then nothing has changed.
+    /// Replaces the row with the same serial, if there is one, as `rewrite` does. Returns the row as it was; `None` if
+    /// there is no such row. The serial is looked up once. O(1), except for growth. Refused with `OutOfMemory` if no
+    /// memory is found to replace a row of the column; then nothing has changed.
     pub fn replace(&mut self, row: Row) -> Result<Option<Row>, Refusal>
         requires within { IsIn self.old.keys row.key.0 }
         requires anew { pending_by self.old row.serial.0 ≡ Some false → IsRenewable self.old }
@@ -182,8 +183,8 @@ impl Store {
         Ok(())
     }
 
-    /// Overwrites the pending insertion with this handle, which has the row's serial, and returns the row as it
-    /// was. O(1).
+    /// Overwrites the pending insertion that the handle reads with this row, which has the same serial. Returns the
+    /// row as it was. O(1); takes no memory.
     fn write_over(&mut self, handle: Handle<Row>, row: Row) -> Row
         requires found { handle_of self.old.serials row.serial.0 ≡ Some handle }
         requires pending { pending_by self.old row.serial.0 ≡ Some true }
@@ -198,8 +199,9 @@ impl Store {
         before
     }
 
-    /// Dooms the row of the column whose serial was looked up, and adds the new row, with the same serial, in
-    /// another cell. Returns the row as it was. O(1), except for growth. Refused as `replace` is.
+    /// Dooms a row of the column, whose serial's entry is `lead`, and adds the new row, with the same serial, in
+    /// another cell as the last pending insertion. Returns the row as it was. O(1), except for growth. Refused with
+    /// `OutOfMemory` if no memory is found; then nothing has changed.
     fn renew(&mut self, lead: Lead, row: Row) -> Result<Row, Refusal>
         requires serial { lead.serial ≡ row.serial }
         requires entry { IsLead lead self.old.serials }

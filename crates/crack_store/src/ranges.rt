@@ -6,15 +6,15 @@ use crate::Store;
 use crack_row::KeyRange;
 
 impl Store {
-    /// The range of keys that the rows may have.
+    /// The partition's keys: the range of the keys that rows of the store may have. O(1).
     pub fn keys(&self) -> KeyRange
         ensures { result ≡ self.now.keys }
     {
         self.inside.keys
     }
 
-    /// The keys from a range's high end up to the next bound above it, or to the partition's high end. O(log
-    /// bounds).
+    /// The keys from a range's high end up to the next bound above it, or to the partition's high end if there is
+    /// none. The range must not end above the partition's keys. O(log bounds).
     pub fn keys_beyond(&self, range: KeyRange) -> KeyRange
         requires { range.high ≤ self.now.keys.high }
         ensures { result ≡ beyond self.now range }

@@ -13,15 +13,17 @@ use crate::points::row_at;
 use crack_row::{KeyRange, Refusal, Row};
 
 impl Store {
-    /// Whether the column was cracked at both ends of a range. O(log bounds).
+    /// Whether the column is cracked at both ends of a range: each end is in the index, or isn't strictly between the
+    /// ends of the partition's keys. O(log bounds).
     pub fn is_cracked(&self, range: KeyRange) -> bool
         ensures { IsTrue result ↔ IsCracked self.now range }
     {
         missing_ends(&self.inside, range).bounds() == 0
     }
 
-    /// The sum of the payloads of the column's rows between the ends of a range, at which the column was cracked.
-    /// Takes no memory. O(rows there + log bounds); reads no cell of a row that the column remembers.
+    /// The sum of the payloads of the column's rows between the ends of a range, including doomed ones. The column
+    /// must be cracked at both ends. Takes no memory. O(rows there + log bounds); reads no cell of a row that the
+    /// column remembers.
     pub fn sum_between(&self, range: KeyRange) -> i128
         requires { IsCracked self.now range }
         ensures is { result ≡ sum_of (stretch_rows self.now range) }
@@ -31,8 +33,8 @@ impl Store {
         self.inside.column.sum_between(from, to, &self.inside.arena)
     }
 
-    /// The column's rows between the ends of a range, at which the column was cracked, by rising serial. O(m log
-    /// m + log bounds) for m rows. Refused with `OutOfMemory` if no memory is found.
+    /// The column's rows between the ends of a range, including doomed ones, by rising serial. The column must be
+    /// cracked at both ends. O(m log m + log bounds) for m rows. Refused with `OutOfMemory` if no memory is found.
     pub fn rows_between(&self, range: KeyRange) -> Result<Vec<Row>, Refusal>
         requires { IsCracked self.now range }
         ensures rows { IfOk result (λ rows. IsPermutation (stretch_rows self.now range) rows.items) }
@@ -45,7 +47,8 @@ impl Store {
         Ok(rows)
     }
 
-    /// The places where the rows of a range begin and end; the column was cracked at its ends. O(log bounds).
+    /// The place where the rows of a range begin in the column, and the place where they end. The column must be
+    /// cracked at both ends of the range. O(log bounds).
     fn places_of(&self, range: KeyRange) -> (usize, usize)
         requires { IsCracked self.now range }
         ensures from { result.0 ≡ edge self.now range.low }
@@ -57,7 +60,7 @@ impl Store {
         (self.edge(range.low()), self.edge(range.high()))
     }
 
-    /// The row at a place of the column. O(1).
+    /// The row at a place of the column, which must exist. O(1).
     fn row_in_place(&self, place: usize) -> Row
         requires { place < length self.now.column }
         ensures { read self.now.cells (slice_index_or self.now.column place no_handle) ≡ Some result }
@@ -65,7 +68,8 @@ impl Store {
         row_at(&self.inside.arena, self.inside.column.at(place))
     }
 
-    /// The rows from one place of the column up to another, in order. O(places).
+    /// The rows from the place `from` of the column up to the place `to`, in order. O(places). Refused with
+    /// `OutOfMemory` if no memory is found.
     fn rows_in_places(&self, from: usize, to: usize) -> Result<Vec<Row>, Refusal>
         requires order { from ≤ to }
         requires within { to ≤ length self.now.column }

@@ -6,17 +6,20 @@ ghost use Rattle.crack_state.specs.Steps.{SameButRoom};
 ghost use Rattle.crack_store.specs.Runs.{run_rows, rows_inserted, AreInsertable};
 
 use crate::Store;
-use crate::admitting::{add_rows, make_room_for_run, row_at_index};
+use crate::inserting::{add_rows, make_room_for_run, row_at_index};
 use crack_row::{KeyNumber, PayloadNumber, Serial};
 
-/// From this many rows on, room for all at once costs less than for one after the other, since it is made in each map
-/// of serials.
+/// From this many rows on, making room for all at once costs less than making it for one row after the other: room for
+/// all at once is made in each map of serials.
 const MANY_ROWS: usize = 16;
 
 impl Store {
-    /// Adds a row for each key and payload, in order, as `insert` does, with serials from `first` on. Returns how many
-    /// it added: fewer than all only if no memory was found for the next one. Makes room for many rows at once; for
-    /// few, or if no memory is found for all, for one after the other. O(rows), except for growth.
+    /// Adds a row for each key and the payload at the same index, in order, as `insert` does, with serials that rise
+    /// by one from `first`. Returns how many rows it added: fewer than all only if no memory was found for the next
+    /// one.
+    ///
+    /// Room is made for all rows at once if there are at least 16, and otherwise, or if no memory is found for all,
+    /// for each row before it is added. O(rows), except for growth.
     pub fn insert_run(
         &mut self,
         first: Serial,
@@ -33,18 +36,23 @@ impl Store {
             (live_rows self.new) }
     {
         if keys.len() < MANY_ROWS {
-            return self.admit_each(first, keys, payloads);
+            return self.insert_each(first, keys, payloads);
         }
         if make_room_for_run(&mut self.inside, first, keys.len()).is_err() {
-            return self.admit_each(first, keys, payloads);
+            return self.insert_each(first, keys, payloads);
         }
         add_rows(&mut self.inside, first, keys, payloads);
         keys.len()
     }
 
-    /// Does what `insert_run` does, but makes room for each row alone.
+    /// Does what `insert_run` does, but makes room for each row before it is added. O(rows), except for growth.
     #[inline(never)]
-    fn admit_each(&mut self, first: Serial, keys: &[KeyNumber], payloads: &[PayloadNumber]) -> usize
+    fn insert_each(
+        &mut self,
+        first: Serial,
+        keys: &[KeyNumber],
+        payloads: &[PayloadNumber],
+    ) -> usize
         requires payloads { length payloads.now ≡ length keys.now }
         requires insertable { AreInsertable first.0 keys.now self.old }
         requires serials { first.0 + length keys.now < 2 ^ 64 }

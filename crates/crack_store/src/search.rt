@@ -21,11 +21,12 @@ const FEW: usize = 16;
 const SHORT: usize = 4096;
 
 impl Carrying {
-    /// The place of a doomed row in the column; `None` if it isn't there, as when it is in hand. O(1) if the place
-    /// was noted, else O(rows of its piece + log bounds). A row that is likely to be the only doomed row of its
-    /// piece is searched for by itself, at a fifth of the cost of a pass that notes every doomed row there.
-    /// Otherwise that pass is made: it serves all doomed rows of a long piece, until a crack moves them. Steps that
-    /// move a doomed row note its new place.
+    /// The place of a doomed row in the column; `None` if it isn't there, as when it is in hand. O(1) if the place was
+    /// noted, else O(rows of its piece + log bounds).
+    ///
+    /// If the row is likely to be the only doomed row of its piece, the piece is searched for it alone, at a fifth of
+    /// the cost of a pass that notes every doomed row there. Otherwise that pass is made: its notes serve all doomed
+    /// rows of a long piece, until a crack moves them. Steps that move a doomed row note its new place.
     pub fn find(&mut self, handle: Handle<Row>) -> Option<usize>
         ensures value { MatchOption result (IsAbsent self.old.store.column handle)
             (IsFirstAt self.old.store.column handle) }
@@ -56,8 +57,8 @@ impl Carrying {
         None
     }
 
-    /// Notes the place of a doomed row, by itself or with those of all other doomed rows of its piece. O(rows there
-    /// + log bounds).
+    /// Notes the place of a doomed row: of it alone if it is likely to be the only doomed row of its piece
+    /// (`is_likely_alone`), otherwise of each doomed row there. O(rows of the piece + log bounds).
     fn note(&mut self, handle: Handle<Row>)
         ensures { self.new ≡ self.old }
     {
@@ -75,7 +76,8 @@ impl Carrying {
         }
     }
 
-    /// Whether a doomed row of this piece is likely to be the only one there, or few are doomed at all. O(1).
+    /// Whether a doomed row of this piece is searched for alone: at most 16 rows are doomed, or the piece has at most
+    /// 4,096 rows and there are at most as many doomed rows as bounds. O(1).
     fn is_likely_alone(&self, piece: Piece) -> bool {
         let doomed = self.inside.pending_out.len();
         let is_short = piece.to <= piece.from.saturating_add(SHORT);
@@ -83,7 +85,7 @@ impl Carrying {
     }
 }
 
-/// Notes the place of a row, if it is in this piece. O(rows there); no other doomed row is noted.
+/// Notes the place of this row, if it is in this piece, and of no other. O(rows of the piece).
 fn note_row(column: &CrackerColumn, piece: Piece, handle: Handle<Row>, notes: &mut Notes) {
     let to = piece.to.min(column.len());
     let from = piece.from.min(to);
@@ -92,8 +94,8 @@ fn note_row(column: &CrackerColumn, piece: Piece, handle: Handle<Row>, notes: &m
     }
 }
 
-/// Notes the place of each doomed row of a piece. O(places): the rows of a block are looked at one by one only if
-/// one of them is doomed.
+/// Notes the place of each doomed row of a piece. O(rows of the piece): those of a block are looked at one by one only
+/// if one of them is doomed.
 fn note_doomed(column: &CrackerColumn, piece: Piece, pending_out: &PendingOut, notes: &mut Notes) {
     let to = piece.to.min(column.len());
     let mut place = piece.from;
@@ -106,7 +108,7 @@ fn note_doomed(column: &CrackerColumn, piece: Piece, pending_out: &PendingOut, n
     }
 }
 
-/// Whether a row from one place up to another is doomed. No branch depends on a row.
+/// Whether a row from the place `from` up to `to` is doomed. O(places); no branch depends on a row.
 fn has_doomed(column: &CrackerColumn, from: usize, to: usize, pending_out: &PendingOut) -> bool
     requires { to ≤ length column.now.handles }
 {
@@ -117,7 +119,7 @@ fn has_doomed(column: &CrackerColumn, from: usize, to: usize, pending_out: &Pend
     any
 }
 
-/// Notes the place of each doomed row from one place up to another.
+/// Notes the place of each doomed row from the place `from` up to `to`. O(places).
 fn note_each(
     column: &CrackerColumn,
     from: usize,
@@ -132,7 +134,7 @@ fn note_each(
     }
 }
 
-/// Notes the place to which the row with this slot goes, if it is doomed. O(1).
+/// Notes this place for the row of the cell `slot`, which goes there, if the row is doomed. O(1).
 pub(crate) fn note_if_doomed(notes: &mut Notes, pending_out: &PendingOut, slot: u32, place: usize) {
     if pending_out.contains(slot) {
         notes.put(slot, place);

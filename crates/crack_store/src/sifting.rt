@@ -34,16 +34,22 @@ const FEWEST_OVER_MANY: usize = 8;
 /// If more insertions than this are pending, those of a range are counted as they are taken.
 pub(crate) const MANY_PENDING: usize = 4096;
 
-/// The most doomed rows that are looked for: among more, one is likely to be in the way.
+/// The most doomed rows for which it is tested whether carries could meet them: of more, one is likely to be met.
 const MOST_DOOMED: usize = 64;
 
 impl Store {
-    /// Carries all pending insertions of a range in bulk; `first` is the place of the first of them. The result is
-    /// that of carrying them one after the other. Returns `false`, and changes nothing, if they are few, if the
-    /// range has all keys and more insertions are pending than the column has rows, or if no memory is found for
-    /// all of them. Makes room for all of them at once. Makes two passes over the pending insertions, or one if
-    /// many are pending and no row is doomed. Then O(bounds), O(pieces) for each row carried, and O(rows carried +
-    /// log bounds) for each of up to 64 doomed rows.
+    /// Carries all pending insertions of a range in bulk, with the result of carrying them one after the other, and
+    /// returns `true`. `first` is the place of the range's first one among all pending insertions. Returns `false`,
+    /// and changes nothing, if
+    /// - the range has all of the partition's keys, and more insertions are pending than the column has rows;
+    /// - fewer than two are in the range, or fewer than eight while there are more than 64 bounds (not tested if no
+    ///   row is doomed and more than 4,096 insertions are pending in total);
+    /// - no memory is found at once for all rows of the range, or, if their number wasn't tested, for as many rows as
+    ///   insertions are pending in total.
+    ///
+    /// Makes two passes over the pending insertions, the first to count those in the range; only one if their number
+    /// isn't tested. After that O(bounds), O(pieces) for each row carried, and, if at most 64 rows are doomed, O(rows
+    /// carried + log bounds) for each of these.
     pub fn carry_in_bulk(&mut self, range: KeyRange, first: usize) -> bool
         requires { Finds range (keys_at self.old.cells self.old.pending_in) 0 (Some first) }
         ensures carried { IsTrue result → SameButRoom (carried_in_bulk None range self.old) self.new }
@@ -74,8 +80,8 @@ impl Store {
     }
 }
 
-/// Whether a pass over the pending insertions of a range is worth it: not if the range has all keys, and more
-/// insertions are pending than the column has rows. O(1).
+/// Whether a pass over the pending insertions of a range is worth it. It isn't if the range has all of the partition's
+/// keys, and more insertions are pending than the column has rows. O(1).
 fn is_worth_a_pass(inside: &Inside, range: KeyRange) -> bool {
     let keys = inside.keys;
     let is_whole = range.low() <= keys.low() && keys.high() <= range.high();
@@ -83,16 +89,17 @@ fn is_worth_a_pass(inside: &Inside, range: KeyRange) -> bool {
     fits || !is_whole
 }
 
-/// Whether the pending insertions of a range are counted only as they are taken: no row is doomed, and so many
-/// insertions are pending that counting those of a range first costs more than a walk over all bounds. O(1).
+/// Whether the pending insertions of a range are counted only as they are taken: no row is doomed, and more than 4,096
+/// insertions are pending, so that counting those of a range first costs more than a walk over all bounds. O(1).
 fn is_counted_late(inside: &Inside) -> bool
     ensures { IsTrue result → inside.now.pending_out.handles ≡ [] }
 {
     inside.pending_out.is_empty() && MANY_PENDING < inside.pending_in.len()
 }
 
-/// Carries the pending insertions of a range, which are at most `most`; `first` is the place of the first of them.
-/// No doomed row may be in the way. Returns whether memory was found for `most` rows; if not, nothing has changed.
+/// Carries the pending insertions of a range, which are at most `most`; `first` is the place of the range's first one
+/// among all pending insertions. If k rows are carried, no doomed row may be among the first k rows of its piece.
+/// Returns `true`, or `false` if no memory was found for `most` rows; then nothing has changed.
 fn carry_at_most(inside: &mut Inside, range: KeyRange, first: usize, most: usize) -> bool
     requires intact { KeepsIntact inside.old [] }
     requires clear { AreClear (length (inside_of inside.old.arena.cells range inside.old.pending_in.handles))
@@ -122,7 +129,8 @@ fn carry_at_most(inside: &mut Inside, range: KeyRange, first: usize, most: usize
     true
 }
 
-/// How many pending insertions have their key in the range; `first` is the place of the first of them. O(rows).
+/// How many pending insertions have their key in the range; `first` is the place of the first one that does. O(pending
+/// insertions).
 pub(crate) fn count_in(
     rows: &mut PendingIn,
     range: KeyRange,
@@ -143,7 +151,8 @@ pub(crate) fn count_in(
     count
 }
 
-/// Whether this many rows are too few for a walk over all bounds. O(1).
+/// Whether this many rows are too few for a walk over all bounds: fewer than two, or fewer than eight if there are
+/// more than 64 bounds. O(1).
 fn is_few(inside: &Inside, count: usize) -> bool {
     let fewest = if MANY_BOUNDS < inside.index.len() {
         FEWEST_OVER_MANY
@@ -154,7 +163,7 @@ fn is_few(inside: &Inside, count: usize) -> bool {
 }
 
 /// Whether no doomed row is where carries of `count` rows could meet it: among the first `count` rows of its piece.
-/// False if many rows are doomed.
+/// Also false if more than 64 rows are doomed. O(count + log bounds) for each doomed row.
 fn is_clear(inside: &Inside, count: usize) -> bool
     requires intact { KeepsIntact inside.now [] }
     requires few { count ≤ 2 ^ 32 }
@@ -184,9 +193,10 @@ fn is_in_way(inside: &Inside, handle: Handle<Row>, count: usize) -> bool
     inside.column.place_between(from, met, handle).is_some()
 }
 
-/// Carries the pending insertions of a range; `first` is the place of the first of them. No doomed row may be in
-/// the way. There must be room for the rows, for their handles in `taken`, and for what is remembered of them in
-/// `known`.
+/// Carries the pending insertions of a range; `first` is the place of the range's first one among all pending
+/// insertions. If k rows are carried, no doomed row may be among the first k rows of its piece. There must be room for
+/// the rows in the column, for their handles in `taken`, and for what is remembered of them in `known`; both lists
+/// must be empty.
 fn carry_rows(
     inside: &mut Inside,
     range: KeyRange,
@@ -255,8 +265,9 @@ impl Raiser for Sieve {
 
     ghost rises = { SieveRises };
 
-    /// Sifts the incoming rows through the piece above the bound. The bound rises by the number of them that are
-    /// below it, which is returned.
+    /// Sifts the incoming rows through the piece above the bound. Returns how far the bound rises: the number of these
+    /// rows that are below it. If the bound's place is after that of the first incoming row, returns 0, and nothing
+    /// changes.
     fn rise(&mut self, mark: Mark) -> usize {
         let Mark { bound, position } = mark;
         if self.from < position {

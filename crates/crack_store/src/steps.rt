@@ -16,9 +16,9 @@ use crate::points::row_at;
 use crack_arena::Remembered;
 use crack_index::{CrackerIndex, Mark};
 
-/// Takes the pending insertion at this place into the hand. Doesn't look up the bound above the hand: returns
-/// `Near::Unsought`. Amortised O(1) at the first place, or after the one taken last; takes no memory. A list that
-/// becomes empty frees its memory.
+/// Takes the pending insertion at this place, in order of arrival, into the hand; the column must have room for its
+/// row. The list frees its memory if it becomes empty. Returns `Near::Unsought`: the bound above the hand isn't looked
+/// up. Amortised O(1) at the first place; k calls for rising places take O(pending insertions + k). Takes no memory.
 pub(crate) fn take_in(inside: &mut Inside, place: usize) -> Near
     requires intact { KeepsIntact inside.old [] }
     requires there { place < length inside.old.pending_in.handles }
@@ -35,7 +35,8 @@ pub(crate) fn take_in(inside: &mut Inside, place: usize) -> Near
 }
 
 /// Takes the column's last row into the hand, with what is remembered of it. Each bound after the row moves down by
-/// one. Returns `Near::Unsought`, as `take_in` does. O(log bounds + bounds at that place); takes no memory.
+/// one. Returns `Near::Unsought`: the bound above the hand isn't looked up. O(log bounds + bounds at that place);
+/// takes no memory.
 pub(crate) fn take_last(inside: &mut Inside) -> Near
     requires intact { KeepsIntact inside.old [] }
     requires some { 0 < length inside.old.column.handles }
@@ -48,8 +49,8 @@ pub(crate) fn take_last(inside: &mut Inside) -> Near
     Near::Unsought
 }
 
-/// Buries the hand, which is doomed: frees its cell, and removes it from the pending deletions. Amortised O(1). A
-/// list that becomes empty frees its memory.
+/// Buries the hand, which is doomed: frees its cell, and removes it from the pending deletions, whose list frees its
+/// memory if it becomes empty. Amortised O(1).
 pub(crate) fn free_hand(inside: &mut Inside)
     requires hand { HasHand inside.old }
     requires doomed { IsDoomed (carried_of inside.old) }
@@ -64,8 +65,9 @@ pub(crate) fn free_hand(inside: &mut Inside)
     inside.tally.deletions = inside.tally.deletions.saturating_add(1);
 }
 
-/// Appends the hand to the column, where its own piece must end. `above` is the least bound above its key; it and
-/// the other bounds at that place above the key move up by one. O(1 + bounds at that place); takes no memory.
+/// Appends the hand to the column; its own piece must end where the column does. `above` is the least bound above its
+/// key; that bound and the higher ones at the same place move up by one. If it is `None`, no bound moves. O(1 + bounds
+/// at that place); takes no memory.
 pub(crate) fn put_last(inside: &mut Inside, above: Option<Mark>)
     requires hand { HasHand inside.old }
     requires above { above ≡ next_mark (hand_key (carried_of inside.old)) inside.old.index.marks }
@@ -78,7 +80,8 @@ pub(crate) fn put_last(inside: &mut Inside, above: Option<Mark>)
     inside.column.append_aside();
 }
 
-/// Puts the hand, which isn't doomed, after the last pending insertion. O(1); takes no memory.
+/// Makes the hand, which isn't doomed, the last pending insertion, for which there must be room. O(1); takes no
+/// memory.
 pub(crate) fn give_back(inside: &mut Inside)
     requires hand { HasHand inside.old }
     requires room { 0 < inside.old.in_room }
@@ -93,8 +96,8 @@ pub(crate) fn give_back(inside: &mut Inside)
     inside.tally.evicted = inside.tally.evicted.saturating_add(1);
 }
 
-/// Moves up by one each bound above a key at the place where the key's piece ends. `above` is the least of them; if
-/// it is `None`, no bound moves.
+/// Moves the bound of `above`, and each higher bound at the same place, up by one; `above` is the least bound above a
+/// key. If it is `None`, no bound moves.
 fn raise_next(index: &mut CrackerIndex, above: Option<Mark>)
     requires there { IfSome above (λ m. Contains index.old.marks m) }
     requires small { All (λ m. m.position < usize.MAX) index.old.marks }

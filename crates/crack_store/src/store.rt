@@ -15,9 +15,9 @@ ghost use Rattle.crack_store.specs.Inside.{no_cells, IsLayoutOf};
 ghost use Rattle.crack_store.specs.Further.{CracksFurther};
 
 use crate::Carrying;
-use crate::admitting::{add_row, make_room_for_one};
 use crate::cracking::{code_pending, crack_at_ends, missing_ends};
 use crate::further::{BOUNDS_BESIDE, crack_further};
+use crate::inserting::{add_row, make_room_for_one};
 use crate::inside::Inside;
 use crate::notes::Notes;
 use crate::steps::{take_in, take_last};
@@ -52,7 +52,7 @@ impl Model for Store {
 }
 
 impl Store {
-    /// A store without rows, for these keys. Takes no memory.
+    /// A store without rows, for these keys. O(1); takes no memory.
     pub fn new(alloc: Global, keys: KeyRange) -> Store
         ensures { result ≡ no_cells keys result.column_room result.in_room }
     {
@@ -85,8 +85,9 @@ impl Store {
         let _ = &self.inside;
     }
 
-    /// Adds a row, in a free cell or a new one, as the last pending insertion. O(1). Refused with `OutOfMemory` if
-    /// no memory is found; then nothing has changed.
+    /// Adds a row, in a free cell or a new one, as the last pending insertion. Its key must be one of the partition's,
+    /// no row may have its serial, and a cell must be free or may be made. O(1), except for growth. Refused with
+    /// `OutOfMemory` if no memory is found; then nothing has changed.
     pub fn insert(&mut self, row: Row) -> Result<(), Refusal>
         requires { IsInsertable row self.old }
         ensures ok { OnOk result (SameButRoom (row_inserted row self.old) self.new) }
@@ -99,7 +100,8 @@ impl Store {
         Ok(())
     }
 
-    /// Whether the row with this serial is a pending insertion; `None` if there is no such row. O(1).
+    /// Whether the row with this serial is a pending insertion (`true`) or in the column (`false`); `None` if there is
+    /// no such row. O(1).
     pub fn is_pending(&self, serial: Serial) -> Option<bool>
         ensures value { result ≡ pending_by self.now serial.0 }
         ensures none { IfNone result (handle_of self.now.serials serial.0 ≡ None) }
@@ -110,9 +112,10 @@ impl Store {
         }
     }
 
-    /// Cracks the column at both ends of the range: each that isn't an end of the partition's keys is then in the
-    /// index. O(size of their pieces + bounds); O(log bounds) for an end that is already there, which takes no
-    /// memory. Refused with `OutOfMemory` if no memory is found; then nothing has changed.
+    /// Cracks the column at both ends of the range: each end that is strictly between the ends of the partition's keys
+    /// is then a bound of the index. O(size of the pieces cracked + bounds); if no bound is missing, O(log bounds),
+    /// and never refused. Refused with `OutOfMemory` if no memory is found; then nothing has changed. If there are
+    /// bounds, takes amortised O(1) more for each pending row, whose key is prepared for fast passes.
     pub fn crack(&mut self, range: KeyRange) -> Result<(), Refusal>
         ensures ok { OnOk result (Refines self.old self.new range) }
         ensures cracked { OnOk result (IsCracked self.new range) }
@@ -128,12 +131,15 @@ impl Store {
         Ok(())
     }
 
-    /// Cracks the column at both ends of the range, as `crack` does. Before that, for each end, the low one first:
-    /// if there are bounds, the end would be a new one, its piece has more than 2,048 rows, and neither end of the
-    /// range has at least three of nine keys sampled there on each side, it cracks at the end and at a further
-    /// bound, the median of these keys. O(size of their pieces + bounds); O(log bounds) for ends that are already
-    /// in the index, which takes no memory. Refused with `OutOfMemory` if no memory is found; then nothing has
-    /// changed.
+    /// Cracks the column at both ends of the range, as `crack` does, but before that beside each end, the low one
+    /// first, if the end says little about its piece. It does if all of this holds: the index has bounds, and the end
+    /// is missing from it, so that `crack` would add it; the end's piece has more than 2,048 rows; of nine keys
+    /// sampled in that piece, neither end of the range has at least three below it and at least three not below it.
+    /// The column is then cracked at this end and at a further bound: the median of the nine keys, or the low end of
+    /// the piece plus one if that is greater.
+    ///
+    /// O(size of the pieces cracked + bounds); if no end is missing, O(log bounds), and never refused. Refused with
+    /// `OutOfMemory` if no memory is found; then nothing has changed. Prepares pending rows' keys as `crack` does.
     pub fn crack_further(&mut self, range: KeyRange) -> Result<(), Refusal>
         ensures ok { OnOk result (CracksFurther self.old self.new range) }
         ensures cracked { OnOk result (IsCracked self.new range) }
@@ -151,8 +157,8 @@ impl Store {
         Ok(())
     }
 
-    /// Makes room for one more row in the column and one more pending insertion. Refused with `OutOfMemory` if no
-    /// memory is found; then nothing has changed.
+    /// Makes room for one more row in the column and one more pending insertion. O(1), except for growth. Refused with
+    /// `OutOfMemory` if no memory is found; then nothing has changed.
     // If inlined, it makes the compiler copy whole stores in a merge.
     #[inline(never)]
     pub fn make_room(&mut self) -> Result<(), Refusal>
@@ -167,9 +173,10 @@ impl Store {
         Ok(())
     }
 
-    /// Takes the pending insertion at this place, in order of arrival, into the hand, after `make_room`: its row is
-    /// then in no list, until steps of the `Carrying` bring it to its place. Amortised O(1) at the first place, or
-    /// after the one taken last; takes no memory.
+    /// Takes the pending insertion at this place, in order of arrival, into the hand: its row is then in no list,
+    /// until a step of the `Carrying` stores it in the column or evicts it. The column must have room for one more row
+    /// (`make_room`). Amortised O(1) at the first place; k lifts at rising places take O(pending insertions + k).
+    /// Takes no memory.
     pub fn lift(self, place: usize) -> Carrying
         requires there { place < length self.pending_in }
         requires room { 0 < self.column_room }
@@ -181,8 +188,8 @@ impl Store {
         Carrying { inside, near }
     }
 
-    /// Takes the column's last row into the hand. Each bound after the row moves down by one. O(log bounds + bounds
-    /// at that place); takes no memory.
+    /// Takes the column's last row into the hand; the column must have one. Each bound after the row moves down by
+    /// one. O(log bounds + bounds at that place); takes no memory.
     pub fn lift_last(self) -> Carrying
         requires { 0 < length self.column }
         ensures after { result ≡ lifted_last self }
@@ -193,7 +200,8 @@ impl Store {
         Carrying { inside, near }
     }
 
-    /// The number of the column's rows between the ends of a range, at which the column was cracked. O(log bounds).
+    /// The number of the column's rows between the ends of a range, including doomed ones. The column must be cracked
+    /// at both ends. O(log bounds).
     pub fn count_between(&self, range: KeyRange) -> u64
         requires { IsCracked self.now range }
         ensures value { result ≡ edge self.now range.high - edge self.now range.low }
@@ -203,8 +211,8 @@ impl Store {
         (self.edge(range.high()) - self.edge(range.low())) as u64
     }
 
-    /// The place at which the rows at or above the bound begin. The bound must be in the index or at an end of the
-    /// partition's keys. O(log bounds).
+    /// The place of the column where the rows at or above the bound begin. The bound must be in the index, or not
+    /// strictly between the ends of the partition's keys. O(log bounds).
     pub(crate) fn edge(&self, bound: Bound) -> usize
         requires { Stands self.now bound.0 }
         ensures { result ≡ edge self.now bound.0 }
@@ -224,7 +232,7 @@ impl Store {
         }
     }
 
-    /// The next bound above this one, or the partition's high end. O(log bounds).
+    /// The next bound of the index above this one, or the partition's high end if there is none. O(log bounds).
     pub fn next_bound(&self, bound: Bound) -> Bound
         ensures { result.0 ≡ bound_above self.now bound.0 }
     {
@@ -237,8 +245,8 @@ impl Store {
         }
     }
 
-    /// The layout as numbers, and the sizes of the pieces. Cracks and merges nothing. O(bounds). Refused with
-    /// `OutOfMemory` if no memory is found.
+    /// The layout of the store: the numbers of rows, cells and pending rows, and the pieces with their sizes. Cracks
+    /// and merges nothing. O(bounds). Refused with `OutOfMemory` if no memory is found.
     pub fn layout(&self) -> Result<Layout, Refusal>
         ensures ok { IfOk result (λ layout. IsLayoutOf self.now layout) }
         ensures equations { IfOk result (λ layout. IsLayout self.now.keys layout) }
@@ -263,8 +271,9 @@ impl Store {
         })
     }
 
-    /// Frees the memory of the pending lists beyond their rows and the room of one growth. Contracts see no change.
-    /// O(1) if the lists have no holes, else O(pending rows); takes no memory and can't fail.
+    /// Frees the memory of the pending lists that holds no row, except room for some more rows: half as many as there
+    /// are, and at least 8,192. Contracts see no change. O(1) if the lists have no holes, else O(pending rows); takes
+    /// no memory and can't fail.
     pub fn shrink_pending(&mut self)
         ensures { self.new ≡ self.old }
     {
@@ -272,49 +281,49 @@ impl Store {
         self.inside.pending_out.shrink(0);
     }
 
-    /// The number of pending insertions.
+    /// The number of pending insertions. O(1).
     pub fn pending_in(&self) -> usize
         ensures { result ≡ length self.now.pending_in }
     {
         self.inside.pending_in.len()
     }
 
-    /// The number of pending deletions.
+    /// The number of pending deletions. O(1).
     pub fn pending_out(&self) -> usize
         ensures { result ≡ length self.now.pending_out }
     {
         self.inside.pending_out.len()
     }
 
-    /// The number of rows in the column, including doomed ones.
+    /// The number of rows in the column, including doomed ones. O(1).
     pub fn column_len(&self) -> usize
         ensures { result ≡ length self.now.column }
     {
         self.inside.column.len()
     }
 
-    /// The number of bounds in the index; the column has one more piece than that.
+    /// The number of bounds in the index; the column has one more piece than that. O(1).
     pub fn bounds(&self) -> usize
         ensures { result ≡ length self.now.marks }
     {
         self.inside.index.len()
     }
 
-    /// The number of cells, including free ones.
+    /// The number of cells, including free ones. O(1).
     pub fn cells(&self) -> usize
         ensures { result ≡ length self.now.cells }
     {
         self.inside.arena.cells()
     }
 
-    /// The number of free cells.
+    /// The number of free cells. O(1).
     pub fn free_cells(&self) -> usize
         ensures { result ≡ length self.now.free }
     {
         self.inside.arena.free_cells()
     }
 
-    /// What merges have counted since the store was made.
+    /// What merges have counted since the store was made. O(1).
     pub fn tally(&self) -> MergeReport
         ensures { result ≡ self.now.tally }
     {
@@ -355,8 +364,8 @@ impl Store {
         self.inside.pending_out.next_in(range, from, arena)
     }
 
-    /// Makes the next look-up of a pending deletion by its place start from this place, so that look-ups at rising
-    /// places take one pass in total. Contracts see no change.
+    /// Makes the next call of `doomed` start from this place, so that calls for rising places take one pass in total.
+    /// Contracts see no change. O(1) for each pending deletion and hole that it passes.
     pub fn seek_out(&mut self, place: usize)
         requires { place < length self.old.pending_out }
         ensures { self.new ≡ self.old }
@@ -364,7 +373,8 @@ impl Store {
         self.inside.pending_out.seek(place);
     }
 
-    /// The pending deletion at this place, in order of arrival. O(1) at the place that was looked up last.
+    /// The pending deletion at this place, in order of arrival. O(1) if the list has no holes, or at the place that
+    /// was last given to `seek_out`; else O(pending deletions and holes).
     pub fn doomed(&self, place: usize) -> Handle<Row>
         requires { place < length self.now.pending_out }
         ensures { StandsAt self.now.pending_out place result }

@@ -1,7 +1,7 @@
 //! Carries in bulk that meet doomed rows. The rows that come in are appended to the column, and pass its pieces from
 //! the lowest up. A row turns a piece if it is below the piece's low bound and isn't doomed: it is exchanged with the
-//! piece's next row, which then stands for it. A row goes on from a piece if it is below the piece's high bound and
-//! isn't doomed: it turns the next piece.
+//! piece's next row, which is then carried on instead of it. A row goes on from a piece if it is below the piece's
+//! high bound and isn't doomed: it turns the next piece.
 ghost use Rattle.std.specs.Prelude.{◌≡◌, ◌+◌, ◌-◌, ◌<◌, ◌≤◌, ◌++◌, ◌↔◌, ℕ, not, true, false, [], Some, None, map};
 ghost use Rattle.std.specs.Prelude.{length, take, drop, filter, vec_capacity, slice_index_or, IsTrue, IsFalse, IfSome};
 ghost use Rattle.crack_arena.specs.Arena.{no_handle};
@@ -27,9 +27,9 @@ use crack_index::{Mark, Placer};
 use crack_pending::PendingOut;
 use crack_row::{Bound, InnerBound, KeyNumber, KeyRange, Row};
 
-/// Carries the `count` pending insertions of a range. `first` is the place of the first of these among all pending
-/// insertions. Doomed rows may be anywhere. Returns whether memory was found for the carried rows; if not, nothing
-/// has changed. O(bounds), and O(pieces) for each carried row.
+/// Carries the `count` pending insertions of a range. `first` is the place of the range's first one among all pending
+/// insertions. Doomed rows may be anywhere. Returns whether memory was found for the carried rows; if not, nothing has
+/// changed. O(bounds), and O(pieces) for each carried row.
 pub(crate) fn carry_by_sweeping(
     inside: &mut Inside,
     range: KeyRange,
@@ -64,8 +64,9 @@ pub(crate) fn carry_by_sweeping(
     true
 }
 
-/// Carries the pending insertions of a range; `first` is the place of the first of them. There must be room for
-/// them, and to list as many doomed rows.
+/// Carries the pending insertions of a range; `first` is the place of the range's first one among all pending
+/// insertions. There must be room for the rows in the column, for their handles in `taken`, for what is remembered of
+/// them in `known`, and for as many doomed rows in `doomed`; the three lists must be empty.
 fn sweep_rows(
     inside: &mut Inside,
     range: KeyRange,
@@ -135,7 +136,7 @@ fn sweep_rows(
     bury_all(inside, &doomed);
 }
 
-/// Moves the incoming rows past the last piece.
+/// Moves the incoming rows past the last piece; no bound moves.
 fn sweep_last(sweep: &mut Sweep)
     requires { IsSweepReady sweep.old }
     ensures { IsSweptTo sweep.old sweep.new }
@@ -152,8 +153,8 @@ fn sweep_last(sweep: &mut Sweep)
     sweep.moved = sweep.moved.saturating_add(made as u64);
 }
 
-/// Removes the doomed rows among those from the place `from` on, and lists them in order. The others stay, in
-/// order.
+/// Removes the doomed rows among the column's rows from the place `from` on, and appends them to `doomed`, in order.
+/// `doomed` must be empty and have room. The other rows stay, in order.
 fn take_doomed(
     column: &mut CrackerColumn,
     pending_out: &PendingOut,
@@ -209,8 +210,10 @@ impl<'a> Placer for Sweep<'a> {
 
     ghost places = { SweepTurns };
 
-    /// Moves the incoming rows past the piece below the bound, which rises by the number of rows that go on from
-    /// the piece, and returns the bound's new place. No row turns a piece that ends at or below the floor.
+    /// Moves the incoming rows past the piece below the bound, and returns the bound's new place: it rises by the
+    /// number of rows that go on from the piece. If the bound is at or below the floor, no row turns its piece, and it
+    /// keeps its place. It also keeps it, and nothing changes, if its place is before `start` or after `from`, or if
+    /// the bound is below `low`.
     fn place(&mut self, mark: Mark) -> usize {
         let Mark { bound, position } = mark;
         if position < self.start || self.from < position || bound.number() < self.low {
@@ -239,14 +242,15 @@ impl<'a> Placer for Sweep<'a> {
     }
 }
 
-/// Whether a bound is at or below another one.
+/// Whether the bound is at or below the floor.
 fn is_up_to(bound: InnerBound, floor: Bound) -> bool
     ensures { IsTrue result ↔ (bound.0 ≤ floor.0) }
 {
     bound.bound() <= floor
 }
 
-/// Does what `sweep_piece` does, for a piece that `count` of the rows turn. If `count` is 0, nothing is moved.
+/// Does what `sweep_piece` does. `count` must be the number of rows from the place `from` on that turn the piece; if
+/// it is 0, no row is moved.
 fn sweep_turned(
     column: &mut CrackerColumn,
     count: usize,
@@ -278,9 +282,9 @@ fn sweep_turned(
     sweep_piece(column, bounds, places, from, pending_out, arena)
 }
 
-/// Moves the rows from the place `from` on past a piece, which is given by its bounds, `None` being the high bound
-/// of the last piece, and by the places where it begins and ends. Returns how many of the piece's rows moved, and
-/// how many of the rows from `from` on then go on from it.
+/// Moves the rows from the place `from` on past a piece. `bounds` are the piece's low and high bound, `None` being the
+/// high bound of the last piece, and `places` are the places where it begins and ends. Returns how often rows were
+/// moved, and how many of the rows then from `from` on go on from the piece.
 fn sweep_piece(
     column: &mut CrackerColumn,
     bounds: (KeyNumber, Option<InnerBound>),
@@ -325,8 +329,8 @@ fn sweep_piece(
     (made, going)
 }
 
-/// The first place from `used` on whose row goes on, by `leaves`, from a piece that ends at the bound `high`; `place`
-/// if there is none before it.
+/// The first place from `used` on, and before `place`, whose row goes on (`leaves`) from a piece that ends at the
+/// bound `high`; `place` if there is none.
 fn next_going(
     column: &CrackerColumn,
     used: usize,
@@ -357,7 +361,7 @@ fn next_going(
     next
 }
 
-/// How many of the rows from the place `from` on go on, by `leaves`, from a piece that ends at the bound `high`.
+/// How many of the rows from the place `from` on go on (`leaves`) from a piece that ends at the bound `high`. O(rows).
 fn count_going(
     column: &CrackerColumn,
     from: usize,
@@ -400,8 +404,8 @@ fn leaves(
     }
 }
 
-/// Whether the row at the place turns a piece that begins at the bound `low`: it is below that bound and not
-/// doomed.
+/// Whether the row at the place turns a piece that begins at the bound `low`: the row's key is below that bound, and
+/// the row isn't doomed.
 #[inline(always)]
 fn turns(
     column: &CrackerColumn,

@@ -10,8 +10,10 @@ use crack_column::CrackerColumn;
 use crack_pending::PendingIn;
 use crack_row::{KeyRange, Row};
 
-/// Takes the rows of a range out of a list, and appends them to the column, in order, each with what is remembered
-/// of it. `taken` gets their handles, and `known` what is remembered of them.
+/// Takes the rows of a range out of the pending insertions `rows`, and appends them to the column, in order, each with
+/// what is remembered of it. The column must have room. Their handles go to `taken`, and what is remembered of them to
+/// `known`; both must be empty and have room. One pass over `rows`. Can't fail: takes memory only to search faster,
+/// and does without it if there is none.
 pub(crate) fn take_rows(
     rows: &mut PendingIn,
     column: &mut CrackerColumn,
@@ -39,8 +41,8 @@ pub(crate) fn take_rows(
     append_taken(column, &taken, &known, arena);
 }
 
-/// Appends these rows to the column, in order, each with what is remembered of it. A row of which nothing is
-/// remembered is read.
+/// Appends these rows to the column, in order, each with what `known` remembers of it at the same index. A row of
+/// which nothing is remembered is read. The column must have room.
 fn append_taken(
     column: &mut CrackerColumn,
     rows: &[Handle<Row>],

@@ -21,9 +21,9 @@ pub enum CarryEnd {
 }
 
 impl Carrying {
-    /// Pushes the hand on until a rule ends its carry, and returns that rule. `ceiling` is `None` for a carry
-    /// without one. Has the result of repeated `push_on`, in one walk over the bounds. O(log bounds + bounds at the
-    /// places on its way); takes no memory.
+    /// Pushes the hand on until one of the rules of `CarryEnd` applies, and returns the first that does. `ceiling` is
+    /// `None` for a carry without a ceiling. Has the result of repeated `push_on`, in one walk over the bounds. O(log
+    /// bounds + bounds at the places on its way); takes no memory.
     pub fn carry_up(&mut self, ceiling: Option<Bound>) -> CarryEnd
         ensures pushes { PushesOn (ceiling_of ceiling) self.old self.new }
         ensures ends { EndsBy (ceiling_of ceiling) result self.new }
@@ -42,8 +42,10 @@ impl Carrying {
         }
     }
 
-    /// Pulls the hand back as long as its own piece begins after the place, in one walk over the bounds. O(log
-    /// bounds + bounds at the places on its way); takes no memory.
+    /// Pulls the row in hand back until its own piece begins at or before `place`: each time it takes the last place
+    /// before its own piece, and the row that was there comes into the hand. The bound where its piece begins, and the
+    /// lower bounds at the same place, move down by one. Takes one walk over the bounds: O(log bounds + bounds at the
+    /// places on its way); takes no memory.
     pub fn pull_down(&mut self, place: usize)
         ensures pulls { PullsBack place self.old self.new }
         ensures ends { piece_start self.new.store (hand_key self.new) ≤ place }
@@ -52,7 +54,7 @@ impl Carrying {
         self.near = Near::Unsought;
     }
 
-    /// The rule that ends a carry before its first step, if there is no bound; `None` if there are bounds. O(1).
+    /// If there is no bound, the rule that ends the carry at once, before a step; `None` if there are bounds. O(1).
     #[inline(always)]
     fn end_at_once(&mut self, ceiling: Option<Bound>) -> Option<CarryEnd>
         ensures ends { IfSome result (λ end. EndsBy (ceiling_of ceiling) end self.old) }
@@ -73,7 +75,8 @@ impl Carrying {
         self.near = ascend(&mut self.inside, ceiling);
     }
 
-    /// The first rule that ends the carry; `None` if none does yet. O(1) after a step up, else O(log bounds).
+    /// The first rule that ends the carry of the row in hand under the ceiling, if any; `None` if no rule ends it yet.
+    /// O(1) after a step up, else O(log bounds).
     #[inline(always)]
     fn carry_end(&self, ceiling: Option<Bound>) -> Option<CarryEnd>
         ensures { MatchOption result (GoesOn (ceiling_of ceiling) self.now) (λ end. EndsBy (ceiling_of ceiling)

@@ -160,13 +160,13 @@ fn puts(
     let Ok(handle) = arena.put(value) else {
         return false;
     };
-    let told = (
+    let found = (
         handle.slot(),
         handle.generation(),
         arena.get(handle).copied(),
     );
     let is_new = !handles.contains(&handle) && handles.push(handle).is_ok();
-    is_new && told == (slot, generation, Some(value))
+    is_new && found == (slot, generation, Some(value))
 }
 
 /// Whether this many puts return the handles of new cells, from this slot on.

@@ -321,11 +321,11 @@ fn has_keys(
     if first >= column.len() || second >= column.len() {
         return false;
     }
-    let told = [
+    let found = [
         key_of(arena, column.at(first)).number(),
         key_of(arena, column.at(second)).number(),
     ];
-    told == [low, high] || told == [high, low]
+    found == [low, high] || found == [high, low]
 }
 
 /// Whether the handle is found at this place of the stretch, or not at all for `None`.

@@ -189,7 +189,7 @@ fn steps_up_go_from_place_to_place(rt: HostRuntime) {
 /// A visitor that adds up the places it visits, and ends the walk at place number `at_most`.
 #[derive(Clone, Copy)]
 pub struct Sums {
-    told: u32,
+    visited: u32,
     at_most: u32,
     sum: usize,
 }
@@ -202,16 +202,16 @@ impl Visitor for Sums {
     ghost visits = { λ _ _ _ _. ⊤ };
 
     fn visit(&mut self, place: usize) -> bool {
-        self.told = self.told.saturating_add(1);
+        self.visited = self.visited.saturating_add(1);
         self.sum = self.sum.saturating_add(place);
-        self.told < self.at_most
+        self.visited < self.at_most
     }
 }
 
 /// A visitor that ends the walk at the place with this number, counted from 1.
 pub fn ending_at(at_most: u32) -> Sums {
     Sums {
-        told: 0,
+        visited: 0,
         at_most,
         sum: 0,
     }
@@ -224,7 +224,7 @@ fn a_walk_up_raises_what_it_passes(rt: HostRuntime) {
     let end = index.climb(key(10), &mut visitor);
     let places = places(&index);
     drop(index);
-    assert!(rt; end.is_none() && [visitor.told as usize, visitor.sum] == [1, 1]);
+    assert!(rt; end.is_none() && [visitor.visited as usize, visitor.sum] == [1, 1]);
     assert!(rt; places == [Some(0), Some(2), Some(2)]);
 }
 
@@ -236,7 +236,7 @@ fn a_walk_down_lowers_what_it_passes(rt: HostRuntime) {
     let end = placed(index.descend(key(20), &mut visitor));
     let places = places(&index);
     drop(index);
-    assert!(rt; end == Some((10, 0)) && [visitor.told as usize, visitor.sum] == [1, 0]);
+    assert!(rt; end == Some((10, 0)) && [visitor.visited as usize, visitor.sum] == [1, 0]);
     assert!(rt; places == [Some(0), Some(0), Some(1)]);
 }
 
@@ -247,6 +247,6 @@ fn a_walk_down_ends_where_the_visitor_says(rt: HostRuntime) {
     let end = placed(index.descend(key(30), &mut visitor));
     let places = places(&index);
     drop(index);
-    assert!(rt; end == Some((30, 1)) && [visitor.told as usize, visitor.sum] == [1, 0]);
+    assert!(rt; end == Some((30, 1)) && [visitor.visited as usize, visitor.sum] == [1, 0]);
     assert!(rt; places == [Some(0), Some(1), Some(1)]);
 }

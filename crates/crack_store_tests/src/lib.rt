@@ -17,6 +17,8 @@ mod filled;
 #[cfg(test)]
 mod index;
 #[cfg(test)]
+mod listed;
+#[cfg(test)]
 mod merge;
 #[cfg(test)]
 mod pending;

@@ -52,7 +52,7 @@ fn insert_run(
 }
 
 /// Inserts the rows of a run one after the other.
-fn admit_each(
+fn insert_each(
     rt: &impl Abort,
     store: &mut Store,
     first: u64,
@@ -86,7 +86,7 @@ fn delete_some(rt: &impl Abort, store: &mut Store, numbers: &mut Numbers, first:
 fn noted_by(rt: &impl Abort, alloc: Global, seed: u64, at_once: bool) -> Vec<u64> {
     let mut numbers = Numbers(seed);
     let mut store = some_store(rt, alloc, &mut numbers, 60);
-    admit_each(rt, &mut store, 1000, &[5, 4, 3, 2, 1], &[1, 2, 3, 4, 5]);
+    insert_each(rt, &mut store, 1000, &[5, 4, 3, 2, 1], &[1, 2, 3, 4, 5]);
     delete_some(rt, &mut store, &mut numbers, 1000);
     let mut keys = Vec::new(alloc);
     let mut payloads = Vec::new(alloc);
@@ -99,7 +99,7 @@ fn noted_by(rt: &impl Abort, alloc: Global, seed: u64, at_once: bool) -> Vec<u64
         let all = insert_run(rt, &mut store, FIRST, keys.as_slice(), payloads.as_slice());
         assert!(rt; all == keys.len());
     } else {
-        admit_each(rt, &mut store, FIRST, keys.as_slice(), payloads.as_slice());
+        insert_each(rt, &mut store, FIRST, keys.as_slice(), payloads.as_slice());
     }
     drop(keys);
     drop(payloads);

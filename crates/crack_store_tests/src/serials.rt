@@ -134,7 +134,7 @@ fn call(
 ) -> bool {
     let slot = numbers.below(1_000_000) as u32;
     let handle = named(slot, generation);
-    let (told, expected) = match numbers.below(6) {
+    let (found, expected) = match numbers.below(6) {
         0 => (
             slot_of(serials.remove(Serial(serial))),
             tree.remove(&serial),
@@ -149,7 +149,7 @@ fn call(
             insert_in(rt, tree, serial, slot),
         ),
     };
-    told == expected && slot_of(serials.get(Serial(serial))) == tree.get(&serial).copied()
+    found == expected && slot_of(serials.get(Serial(serial))) == tree.get(&serial).copied()
 }
 
 /// Asserts that each call has the same result on maps and on a tree.

@@ -89,8 +89,8 @@ fn descend(index: &mut CrackerIndex, marks: &mut [Placed], key: KeyNumber, place
 fn assert_same(rt: &impl Abort, index: &CrackerIndex, marks: &[Placed]) {
     assert!(rt; index.len() == marks.len());
     'bounds: for number in 1..65 {
-        let told = index.position(bound_at(number));
-        assert!(rt; told == place_of(marks, number));
+        let found = index.position(bound_at(number));
+        assert!(rt; found == place_of(marks, number));
     }
 }
 
@@ -134,9 +134,9 @@ fn seven_bounds_in_rising_order_stand_three_high(rt: HostRuntime) {
     'bounds: for number in 1..8 {
         add(&rt, &mut index, &mut marks, bound_at(number));
     }
-    let told = [index.len(), index.height() as usize];
+    let found = [index.len(), index.height() as usize];
     drop(index);
-    assert!(rt; told == [7, 3]);
+    assert!(rt; found == [7, 3]);
 }
 
 /// Adds the bound to both, at a place that rises with it, if it isn't there.

@@ -15,10 +15,10 @@ use Rattle.crack_witness.specs.Witnesses.{WorkerState, IsGiven}
 use Rattle.crack_table.specs.Tables.{TableState, AnswersAt, with_limit}
 use Rattle.crack_table.specs.declared.TheConstants.{GATE_TURNS}
 
--- why an existing partition may refuse a worker's command: the gate may refuse at each turn; no memory was found; a
--- partition refuses the command for this cause, with the table's limit of a history; `StrangeReceipt`, with the
--- partition and the number of the worker's replies there; or `NoSuchPartition` if the worker knows of no such
--- partition
+-- Why a worker's command may be refused by an existing partition: `GateGaveUp`, only if the gate may refuse at each
+-- turn, as `may_refuse` says; `OutOfMemory`; a cause for which a partition in some state refuses it (`refusal_of`),
+-- but with the table's limit in `HistoryFull`; `StrangeReceipt`, with `part` and the number of the worker's replies
+-- there; `NoSuchPartition`, only if the worker knows of no partition with this number.
 abbrev pub MayRefuse : TableState → (ℕ → Type 0) → ℕ → Command → WorkerState → Refusal → Type 0
 MayRefuse table may_refuse part command worker e =
     ((e ≡ GateGaveUp) × ((turn : ℕ) → turn < GATE_TURNS → may_refuse turn))
@@ -26,9 +26,11 @@ MayRefuse table may_refuse part command worker e =
     ⊎ (((p : Part) × (cause : Refusal) × (refusal_of p command ≡ Some cause) × (e ≡ with_limit table.limits.history cause))
     ⊎ ((e ≡ StrangeReceipt part (slice_index_or worker.counts part 0)) ⊎ ((e ≡ NoSuchPartition) × (length worker.seen_by_part ≤ part)))))
 
--- A worker asks one partition. If it is answered, what it now sees of the partition's history ends with its entry,
--- after all that it had seen before; every history is legal, the worker's entries there are those of its replies,
--- and with an audit it has one more receipt. If it is refused, there is a cause, and the worker is unchanged.
+-- The worker `old` asks partition `part`, and is `new` then. If it is answered, what it now sees of the partition's
+-- history ends with its entry, after all that it had seen before; of its own entries there it sees those of its
+-- replies. Each reply in a history that it sees is that of the plain rows after the entries before it. With an audit
+-- it has one more receipt. A refusal leaves it unchanged: `NoSuchPartition` if there is no such partition, else as
+-- `MayRefuse` says.
 pub record AsksTable (owner : ℕ → ℕ) (table : TableState) (may_refuse : ℕ → Type 0) (part : ℕ) (command : Command) (result : Result Reply Refusal) (old new : WorkerState) : Type 0 where
   pub given : IfOk result (λ reply. IsGiven owner part (record { worker = old.worker; command = command; reply = reply }) old.seen new.seen)
   pub mine : IfOk result (λ reply. calls_at owner part old.worker new.seen ≡ calls_at owner part old.worker (slice_index_or old.seen_by_part part []) ++ record { worker = old.worker; command = command; reply = reply } ∷ [])

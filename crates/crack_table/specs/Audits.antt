@@ -10,10 +10,10 @@ use Rattle.crack_witness.specs.Witnesses.{WorkerState, WitnessedState, receipts_
 abbrev pub history_in : (ℕ → ℕ) → WitnessedState → List Entry
 history_in owner w = history_of (owner w.part) w.log
 
--- the histories of partitions, which audited partitions list
+-- the history of each partition, in order; an audited partition lists its own
 abbrev pub histories_of : (ℕ → ℕ) → List WitnessedState → List (List Entry)
 histories_of owner parts = map (history_in owner) parts
 
--- the receipts of all workers, as one list
+-- the receipts of all workers, in order, as one list
 abbrev pub receipts_of : List WorkerState → List Receipt
 receipts_of workers = flat_map receipts_in workers

@@ -1,5 +1,5 @@
 -- What private clauses alone cite.
--- The invariants of tables.
+-- The invariants of tables. `AreSplits` and `AreLimits` say which splits and limits are valid.
 use Rattle.std.specs.Prelude.{◌≡◌, ℕ, ◌+◌, ◌<◌, ◌≤◌, List, length, Some, slice_get}
 use Rattle.crack_row.specs.Limits.{AreLimits}
 use Rattle.crack_row.specs.declared.Bound.{Bound}
@@ -7,8 +7,8 @@ use Rattle.crack_row.specs.declared.limit.Limits.{Limits}
 use Rattle.crack_core.specs.Routes.{AreSplits}
 use Rattle.crack_witness.specs.Witnesses.{OwnersDiffer, AreDistinct, WitnessedState}
 
--- the invariant of a table whose book has no name yet: its arguments are valid, and each partition has an owner of
--- its own, a number in the book
+-- the invariant of a table whose book has no name yet: its splits and limits are valid, it has 1 to 64 workers, and
+-- `ids` has an owner for each partition, its number in the book, no two the same
 pub record IsUnnamed (ids : List ℕ) (splits : List Bound) (limits : Limits) (workers : ℕ) : Type 0 where
   pub rising : AreSplits splits
   pub limited : AreLimits limits
@@ -17,8 +17,8 @@ pub record IsUnnamed (ids : List ℕ) (splits : List Bound) (limits : Limits) (w
   pub owners : length ids ≡ length splits + 1
   pub distinct : AreDistinct ids
 
--- the invariant of each table: its arguments are valid, there is a lock for each partition, and no two partitions
--- have the same owner
+-- the invariant of each table: its splits and limits are valid, it has at most 64 workers, there is a lock for each
+-- partition, and no two partitions have the same owner
 pub record IsTable (owner : ℕ → ℕ) (splits : List Bound) (limits : Limits) (workers locks : ℕ) : Type 0 where
   pub rising : AreSplits splits
   pub limited : AreLimits limits

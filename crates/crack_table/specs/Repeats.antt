@@ -24,12 +24,12 @@ pasts_of owner parts = map (past_of owner) parts
 abbrev pub asked : Entry → Command
 asked entry = entry.command
 
--- the commands that a list of steps asks of partition `part`
+-- the commands that a list of steps asks of partition `part`, in order
 abbrev pub asked_of : ℕ → List Step → List Command
 asked_of part [] = []
 asked_of part (step ∷ steps) = if step.part == part then step.command ∷ asked_of part steps else asked_of part steps
 
--- the replies of partition `part` to a list of steps, up to the first step that is refused
+-- the replies of partition `part` among the results of a list of steps, up to the first refusal of any partition
 abbrev pub replies_of_part : ℕ → List Step → List (Result Reply Refusal) → List Reply
 replies_of_part part (step ∷ steps) (Ok reply ∷ results) = if step.part == part then reply ∷ replies_of_part part steps results else replies_of_part part steps results
 replies_of_part part _ _ = []
@@ -56,19 +56,20 @@ table_at_base past = table_of_past (at_base past)
 abbrev pub said : Entry → Reply
 said entry = entry.reply
 
--- each step asks one of the partitions, and the steps ask of each partition the commands of its history, in order
+-- each step asks one of the partitions, and the steps ask of each one the commands of its past's history, in order
 pub record AreAsked (pasts : List Past) (steps : List Step) : Type 0 where
   pub there : All (λ (step : Step). step.part < length pasts) steps
   pub commands : (part : ℕ) (past : Past) → slice_get pasts part ≡ Some past → asked_of part steps ≡ map asked past.tail
 
--- If no step is refused, each partition gives all replies of its history, in order; otherwise it gives the first of
--- them. The first refusal is `OutOfMemory` or `NoCell`.
+-- The results are those of the steps. Each partition's replies up to the first refusal of any partition are the first
+-- of its past's history, in order; all of them if none is refused. The first refusal is `OutOfMemory` or `NoCell`.
 pub record AreRepeated (pasts : List Past) (steps : List Step) (results : List (Result Reply Refusal)) : Type 0 where
   pub whole : first_refusal results ≡ None → (part : ℕ) (past : Past) → slice_get pasts part ≡ Some past → map said past.tail ≡ replies_of_part part steps results
   pub begun : (part : ℕ) (past : Past) → slice_get pasts part ≡ Some past → (rest : List Reply) × (map said past.tail ≡ replies_of_part part steps results ++ rest)
   pub refused : IfSome (first_refusal results) (λ e. (e ≡ OutOfMemory) ⊎ (e ≡ NoCell))
 
--- Steps ask the commands of these pasts, the partitions interleaved in any way. If their outcomes are those of a
--- core whose plain tables are the bases of these pasts, they repeat the replies.
+-- A core repeats the replies of these pasts: its plain tables are at first the bases of the pasts, and its steps ask
+-- the pasts' commands, those of each partition in order, with the partitions interleaved in any way. The replies are
+-- then those of the pasts, up to the first refusal.
 abbrev pub Repeats : List Bound → Limits → List Past → Type 0
 Repeats splits limits pasts = (steps : List Step) (results : List (Result Reply Refusal)) → AreAsked pasts steps → AreExpectedOutcomes limits splits (map table_at_base pasts) (map Perform steps) (map (mapped Replied) results) → AreRepeated pasts steps results

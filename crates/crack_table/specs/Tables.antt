@@ -19,27 +19,27 @@ pub record TableState : Type 0 where
   pub locks : ℕ
   pub audited : Bool
 
--- a refusal as a worker receives it: `HistoryFull` carries this limit, because the partition's own is known only
+-- a refusal as a worker receives it: `HistoryFull` carries `limit`, because the partition's own limit is known only
 -- under its lock
 abbrev pub with_limit : ℕ → Refusal → Refusal
 with_limit limit (HistoryFull entries) = HistoryFull limit
 with_limit limit e = e
 
 -- One partition of a table is asked for something. The outcome is `NoSuchPartition` if the partition doesn't exist;
--- otherwise any refusal has one of these causes.
+-- otherwise any refusal has one of the `Causes`.
 pub record AnswersAt {X : Type 0} (table : TableState) (part : ℕ) (Causes : Refusal → Type 0) (result : Result X Refusal) : Type 0 where
   pub there : OnOk result (part ≤ length table.splits)
   pub nowhere : length table.splits < part → result ≡ Err NoSuchPartition
   pub causes : part ≤ length table.splits → IfErr result Causes
 
--- The layout of one partition is asked for. The outcome is a layout between two ends, or a refusal because there is
--- no such partition or no memory is found.
+-- The layout of one partition is asked for. The outcome is a layout of some range of keys, or a refusal because there
+-- is no such partition or no memory is found.
 pub record LooksAt (table : TableState) (part : ℕ) (result : Result Layout Refusal) : Type 0 where
   pub equations : IfOk result (λ layout. (ends : Range) × IsLayout ends layout)
   pub at : AnswersAt table part (λ e. e ≡ OutOfMemory) result
 
--- The numbers of one partition are asked for. The outcome is the numbers of a sound partition, or a refusal because
--- there is no such partition.
+-- The statistics of one partition are asked for. The outcome is the statistics of a sound partition, or a refusal
+-- because there is no such partition.
 pub record MeasuresAt (table : TableState) (part : ℕ) (result : Result Statistics Refusal) : Type 0 where
   pub numbers : IfOk result (λ statistics. (p : Part) × IsSound p × (statistics ≡ statistics_of p))
   pub at : AnswersAt table part (λ e. ⊥) result

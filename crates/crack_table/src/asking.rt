@@ -16,11 +16,11 @@ use crate::gate::{Gate, pass};
 use crack_row::{Command, Policy, Refusal, Reply};
 use crack_witness::{Naming, Witnessed, Worker};
 
-/// Asks the gate until it consents, and then the partition, which must have number `part`, for the worker. The
-/// partition stays borrowed from the first call of the gate to the reply, so its lock can't be released in between.
-/// Returns the outcome of asking the partition, which may be a refusal, and sets `checkpointed` to how many commands a
-/// checkpoint that was due added to the base, or to 0. Refused with `GateGaveUp` if the gate refuses `GATE_TURNS`
-/// times: then worker and partition are as they were.
+/// Asks the gate until it consents, and then asks partition `part` for the worker. The partition stays borrowed from
+/// the first call of the gate to the reply, so its lock can't be released in between. Returns the outcome of
+/// `Worker::ask`, which may be a refusal. Sets `checkpointed` to how many commands a checkpoint added to the base, if
+/// one was made first because the history was full; otherwise to 0. Refused with `GateGaveUp` if the gate refuses
+/// `GATE_TURNS` times: then worker and partition are unchanged.
 pub(crate) fn ask_behind<J: Naming, G: Gate>(
     gate: &G,
     worker: &mut Worker<J>,
@@ -90,7 +90,8 @@ pub(crate) fn ask_behind<J: Naming, G: Gate>(
     Ok(answered)
 }
 
-/// The outcome, with the table's limit in `HistoryFull`, because outside the lock no contract knows the partition's.
+/// The same outcome, except that a refusal with `HistoryFull` carries `limit`, the table's limit: outside the lock no
+/// contract knows the partition's own limit.
 pub(crate) fn with_table_limit(
     answered: Result<Reply, Refusal>,
     limit: u64,
@@ -103,7 +104,7 @@ pub(crate) fn with_table_limit(
     }
 }
 
-/// The refusal with the table's limit in `HistoryFull`.
+/// The same refusal, except that `HistoryFull` carries `limit`.
 fn with_limit(refusal: Refusal, limit: u64) -> Refusal
     ensures { result ≡ with_limit limit refusal }
 {

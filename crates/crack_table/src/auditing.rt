@@ -10,8 +10,10 @@ use crack_row::{Entry, Refusal};
 use crack_witness::{Naming, Receipt, Witnessed, Worker};
 use std::alloc::{AllocError, Global};
 
-/// Checks, if there is an audit, that the receipts of all workers cover the lists of all partitions. Refused as
-/// `cover` is, and with `OutOfMemory` if no memory is found.
+/// Checks, if there is an audit, that the receipts of all workers cover the lists of all partitions: exactly one
+/// receipt names each entry, and holds it; none names another place; and one worker's receipts in one partition name
+/// rising places. Refused with `StrangeReceipt` at the place that `cover` says if they don't, and with `OutOfMemory` if
+/// no memory is found. Without an audit it does nothing, and isn't refused.
 pub(crate) fn audit<J: Naming>(
     alloc: Global,
     is_audited: bool,
@@ -33,8 +35,8 @@ pub(crate) fn audit<J: Naming>(
 }
 
 /// Checks that the receipts of all workers cover the lists of all partitions: each entry has exactly one receipt,
-/// which holds it, and there are no others. Refused with `StrangeReceipt` at the place that `cover` says, and with
-/// `OutOfMemory` if no memory is found.
+/// which holds it, there are no others, and one worker's receipts in one partition name rising places. Refused with
+/// `StrangeReceipt` at the place that `cover` says if they don't, and with `OutOfMemory` if no memory is found.
 fn compare_lists<J: Naming>(
     alloc: Global,
     parts: &Vec<Witnessed<J>>,
@@ -52,7 +54,8 @@ fn compare_lists<J: Naming>(
     cover(alloc, lists.as_slice(), receipts.as_slice())
 }
 
-/// The partitions' lists of entries, by partition. Each partition must keep one. Refused if no memory is found.
+/// The partitions' lists of entries, one for each partition, in order. Each partition must keep a list. Refused if no
+/// memory is found.
 fn lists_in<'a, J: Naming>(
     alloc: Global,
     parts: &'a Vec<Witnessed<J>>,

@@ -20,12 +20,13 @@ use std::alloc::{AllocError, Global};
 /// of a list. Exactly one receipt must name each place, and it must hold the entry there. No receipt may name another
 /// place. One worker's receipts in one partition must name rising places, in the order of the list.
 ///
-/// Refused with `StrangeReceipt` at the first gap, in the order of the partitions and of their entries. If there is no
-/// gap, the refusal names the place of the first receipt in the list whose place doesn't exist; if there is none, that
-/// of the first receipt whose place isn't above that of an earlier one of its worker in its partition. Refused with
-/// `OutOfMemory` if no memory is found; takes a byte for each place. O(places + receipts), up to a logarithm of the
-/// workers and partitions that the receipts name. There are at most 2^32 partitions, because a refusal numbers them in
-/// 32 bits.
+/// Refused with `StrangeReceipt` at the first of these places that there is: the first gap, in the order of the
+/// partitions and of their entries; the place that the first receipt without an existing place names; the place of the
+/// first receipt whose place isn't above that of an earlier one of its worker in its partition. A gap is a place that
+/// isn't named by exactly one receipt with the entry there. Refused with `OutOfMemory` if no memory is found.
+///
+/// Takes a byte for each place. O(places + receipts), up to a logarithm of the workers and partitions that the
+/// receipts name. There are at most 2^32 partitions, because a refusal numbers them in 32 bits.
 pub fn cover(alloc: Global, lists: &[&[Entry]], receipts: &[&[Receipt]]) -> Result<(), Refusal>
     requires few { length lists.now ≤ 2 ^ 32 }
     ensures covers { OnOk result (Covers (map (λ l. l.now) lists.now) (flat_map (λ r. r.now) receipts.now)) }
@@ -52,7 +53,8 @@ pub fn a_fault_is_no_cover()
         position → ¬ Covers lists receipts }
 {}
 
-/// The states of all places before the first receipt: none is named. O(places). Refused if no memory is found.
+/// For each list, the states of its places before the first receipt: no place is named. O(places). Refused if no
+/// memory is found.
 fn blank_states(alloc: Global, lists: &[&[Entry]]) -> Result<Vec<PlaceStates>, AllocError>
     ensures { IfOk result (λ v. IsCoverage (map (λ l. l.now) lists.now) v.items []) }
 {
@@ -83,7 +85,9 @@ fn add_lists(
     stranger
 }
 
-/// Does what `add_lists` does, for one list of receipts.
+/// Records the receipts of one list in the states of the places that they name, as `add_lists` does for all lists.
+/// Returns the place that the list's first receipt without an existing place names, or `None` if there is no such
+/// receipt. O(receipts).
 fn add_all(
     lists: &[&[Entry]],
     states: &mut Vec<PlaceStates>,
@@ -146,8 +150,8 @@ fn is_entry(entry: &Entry, receipt: &Receipt) -> bool
         && entry.reply.is_same(&receipt.reply)
 }
 
-/// The first gap, as a partition and a position: the first place that no receipt, several, or a wrong one names;
-/// `None` if there is no gap. O(places).
+/// The first gap, as a partition and a position: the first place that isn't named by exactly one receipt with the
+/// entry there. `None` if there is no gap. `states` are the states of all places after the last receipt. O(places).
 fn first_gap(lists: &[&[Entry]], states: &Vec<PlaceStates>) -> Option<(u32, u64)>
     requires few { length lists.now ≤ 2 ^ 32 }
     requires coverage { (receipts : List Receipt) × IsCoverage (map (λ l. l.now) lists.now) states.now.items

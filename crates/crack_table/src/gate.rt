@@ -28,14 +28,14 @@ pub trait Gate {
     /// Whether the gate may refuse at this partition, at this turn.
     ghost may_refuse: { Self → ℕ → ℕ → Type 0 };
 
-    /// Whether a command may be executed. Called under the lock of partition `part`, with turn 0, 1, .. until it
-    /// returns true, at most `GATE_TURNS` times in one call.
+    /// Whether a command at partition `part` may be executed. Called under the partition's lock, with turn 0, 1, ..
+    /// until it returns true, at most `GATE_TURNS` times for one command.
     fn inside(&self, part: u32, turn: u32) -> bool
         ensures { OnFalse result (may_refuse self.now part turn) };
 
-    /// Notes that partition `part` made a checkpoint because one was due, and how many commands it had answered since
-    /// the last one. The worker whose command found the history full calls this once for each such checkpoint, after
-    /// it has released the lock.
+    /// Notes that partition `part` made a checkpoint because one was due; `entries` is how many commands the partition
+    /// had answered since the previous checkpoint. The worker whose command found the history full calls this once for
+    /// each such checkpoint, after it has released the lock. Does nothing unless a gate defines it.
     fn note_checkpoint(&self, part: u32, entries: u64) {
         let _ = (part, entries);
     }
@@ -54,7 +54,8 @@ impl Gate for OpenGate {
     }
 }
 
-/// Asks a gate until it consents. Refused with `GateGaveUp` if it refuses `GATE_TURNS` times.
+/// Asks a gate, for a command at partition `part`, until it consents. Refused with `GateGaveUp` if it refuses
+/// `GATE_TURNS` times.
 pub(crate) fn pass<G: Gate>(gate: &G, part: u32) -> Result<(), Refusal>
     ensures cause { IfErr result (λ e. e ≡ Refusal.GateGaveUp) }
     ensures turns { IfErr result (λ _. (turn : ℕ) → turn < GATE_TURNS → G.may_refuse gate.now part turn) }
@@ -67,7 +68,8 @@ pub(crate) fn pass<G: Gate>(gate: &G, part: u32) -> Result<(), Refusal>
     Err(Refusal::GateGaveUp)
 }
 
-/// Notifies the gate of a checkpoint that was due, of `checkpointed` commands; 0 means that there was none.
+/// Notifies the gate that partition `part` made a checkpoint of `checkpointed` commands because one was due. Does
+/// nothing if `checkpointed` is 0: then no checkpoint was made.
 #[inline(always)]
 pub(crate) fn note_due_checkpoint<G: Gate>(gate: &G, part: u32, checkpointed: u64) {
     if checkpointed > 0 {

@@ -60,15 +60,16 @@ pub struct GatherRefused<J: Naming> {
     pub workers: Vec<Worker<J>>,
 }
 
-/// Closes a table when all its workers are handed back. Checks that each partition's history since its opening begins
-/// with all that the workers saw of it, and has exactly the entries of each worker for which it received replies, as
-/// both have counted. With an audit it also checks that the receipts of all workers match these entries one to one;
-/// then the totals are those of the receipts. Refused, in this order: with `WorkersMissing`, one bit for each missing
-/// number, if a worker of the table is missing; with `OutOfMemory` if no memory is found; with `StrangeReceipt` at
-/// position 0 of the first partition that isn't the table's; with an audit as `cover` is, and with `OutOfMemory` if no
-/// memory is found; then as `compare` of crack_witness is. A refusal hands the table and the workers back.
-/// O(partitions × workers), however many entries there are; an audit takes O(entries + receipts), up to a logarithm,
-/// and a byte for each entry.
+/// Closes a table when all its workers are handed back, and returns the totals and the partitions. Checks that each
+/// partition's history since its opening begins with all that the workers saw of it, and has exactly those entries of
+/// each worker for which the worker received replies, as both have counted. With an audit it also checks that the
+/// receipts of all workers match these entries one to one; then the totals are those of the receipts.
+///
+/// Refused, in this order: with `WorkersMissing`, bit n for number n, if a worker of the table is missing; with
+/// `OutOfMemory` if no memory is found; with `StrangeReceipt` at position 0 of the first partition that isn't the
+/// table's; with an audit as `cover` is, and with `OutOfMemory` if no memory is found; then as `compare` of
+/// crack_witness is. A refusal hands the table and the workers back. O(partitions × workers), however many entries
+/// there are; an audit takes O(entries + receipts) more, up to a logarithm, and a byte for each entry.
 pub fn gather<J: Naming>(
     alloc: Global,
     table: Table<J>,
@@ -121,9 +122,9 @@ pub fn gather<J: Naming>(
     }
 }
 
-/// Takes the partitions out of their locks, and checks that they and the workers agree. Refused with `OutOfMemory`
-/// if no memory is found, and as `match_all` is; the partitions are then in locks again. `count` is the number of
-/// the table's workers.
+/// Takes the partitions out of their locks, checks that they and the workers agree, and returns them with the totals.
+/// `count` is the number of the table's workers. Refused with `OutOfMemory` if no memory is found, and as `match_all`
+/// is; the partitions are then in locks again.
 fn close<J: Naming>(
     alloc: Global,
     locks: &mut Vec<Mutex<Witnessed<J>>>,
@@ -165,7 +166,7 @@ fn close<J: Naming>(
 }
 
 /// Checks that the partitions are the table's, and that they and the workers agree. Returns the partitions' totals.
-/// `count` is the number of the table's workers. Refused as `gather` is if none of them is missing.
+/// `count` is the number of the table's workers. Refused as `gather` is if no worker is missing.
 fn match_all<J: Naming>(
     alloc: Global,
     splits: &[Bound],
@@ -232,8 +233,9 @@ fn first_strange<J: Naming>(
     None
 }
 
-/// Whether a partition has the number of its place, counts the table's workers, lists its entries if there is an audit,
-/// and has the table's keys and limits there.
+/// Whether a partition is the table's at this place: its number is the place, it counts the entries of `workers`
+/// workers, it lists its entries exactly if there is an audit, and it has the table's limits, and the keys that
+/// `splits` give to the place.
 fn is_tables_at<J: Naming>(
     splits: &[Bound],
     limits: Limits,
@@ -252,7 +254,7 @@ fn is_tables_at<J: Naming>(
         && is_tables(splits, limits, place, part.partition())
 }
 
-/// Whether a partition has these limits, and the keys of partition `part`.
+/// Whether a partition has these limits, and the keys of the table's partition `part`, which `splits` give.
 fn is_tables(splits: &[Bound], limits: Limits, part: usize, partition: &Partition) -> bool
     requires rising { AreSplits splits.now }
     requires there { part ≤ length splits.now }
@@ -261,7 +263,7 @@ fn is_tables(splits: &[Bound], limits: Limits, part: usize, partition: &Partitio
     partition.keys() == keys_of_part(splits, part) && partition.limits() == limits
 }
 
-/// One bit for each number below `count` that no worker has.
+/// The numbers below `count` that no worker has: bit n is set for number n. 0 if none is missing.
 fn missing_workers<J: Naming>(workers: &Vec<Worker<J>>, count: u64) -> u64
     requires { count ≤ 64 }
     ensures { result ≡ missing_below (λ (w : WorkerState). w.worker) workers.now.items count }
@@ -275,7 +277,7 @@ fn missing_workers<J: Naming>(workers: &Vec<Worker<J>>, count: u64) -> u64
     missing
 }
 
-/// `bit`, or 0 if `is_there`.
+/// 0 if `is_there`, otherwise `bit`.
 fn bit_unless(is_there: bool, bit: u64) -> u64
     ensures is { result ≡ (if is_there then 0 else bit) }
     ensures small { result ≤ bit }

@@ -4,7 +4,8 @@ ghost use Rattle.std.specs.Prelude.{◌≡◌, ◌≤◌, length, vec_len, vec_c
 use crack_witness::{Naming, Witnessed};
 use std::sync::Mutex;
 
-/// Takes the partitions out of their locks, in order.
+/// Moves the partitions out of their locks into `parts`, in order, and leaves `locks` empty. `parts` must be empty and
+/// have room for them.
 pub(crate) fn unlock<J: Naming>(locks: &mut Vec<Mutex<Witnessed<J>>>, parts: &mut Vec<Witnessed<J>>)
     requires empty { vec_len parts.old ≡ 0 }
     requires room { vec_len locks.old ≤ vec_capacity parts.old }
@@ -17,7 +18,8 @@ pub(crate) fn unlock<J: Naming>(locks: &mut Vec<Mutex<Witnessed<J>>>, parts: &mu
     parts.reverse();
 }
 
-/// Puts the partitions into locks, in order. There is room for the locks, so this takes no memory.
+/// Moves the partitions into new locks, in order, and leaves `parts` empty. `locks` must be empty and have room for
+/// them, so this takes no memory.
 pub(crate) fn lock<J: Naming>(parts: &mut Vec<Witnessed<J>>, locks: &mut Vec<Mutex<Witnessed<J>>>)
     requires empty { vec_len locks.old ≡ 0 }
     requires room { length parts.old.items ≤ vec_capacity locks.old }

@@ -53,10 +53,12 @@ impl Model for UnnamedTable {
 impl UnnamedTable {
     /// The first step: opens the book of a table. Each split ends one partition and begins the next, and each
     /// partition has these limits. With an audit each partition will list its entries, and each worker will keep its
-    /// receipts. Refused, in this order: with `BadSplits` if the splits don't rise strictly or one isn't 1 to
+    /// receipts. O(partitions).
+    ///
+    /// Refused, in this order: with `BadSplits` if the splits don't rise strictly, or one is 0 or above
     /// `GREATEST_KEY`; with `TooManyPartitions` if there are more than `MOST_SPLITS` of crack_core; with
-    /// `BadWorkerCount` if there aren't 1 to `MOST_WORKERS` workers; with `BadLimit` if a limit isn't 1 to the greatest
-    /// of its kind; with `OutOfMemory` if no memory is found. O(partitions).
+    /// `BadWorkerCount` if there is no worker, or more than `MOST_WORKERS`; with `BadLimit` if a limit is 0 or above
+    /// the greatest of its kind; with `OutOfMemory` if no memory is found.
     pub fn open(
         alloc: Global,
         splits: &[Bound],
@@ -124,7 +126,8 @@ impl UnnamedTable {
     }
 }
 
-/// The first fault of an opening, in the order of `UnnamedTable::open`; `None` if there is none.
+/// Why an opening with these arguments is refused, apart from lack of memory: the first cause in the order of
+/// `UnnamedTable::open`. `None` if there is none.
 fn fault(splits: &[Bound], limits: Limits, workers: u64) -> Option<Refusal>
     ensures value { result ≡ table_fault splits.now limits workers }
     ensures good { result ≡ None → AreSplits splits.now × AreLimits limits × (0 < workers) × (workers ≤ 64) }
@@ -138,8 +141,8 @@ fn fault(splits: &[Bound], limits: Limits, workers: u64) -> Option<Refusal>
     limits_fault(limits)
 }
 
-/// `count` workers, numbered from 0, for this many partitions. They keep receipts if there is an audit. Refused if
-/// no memory is found.
+/// `count` workers, numbered from 0, for `parts` partitions, which have seen these events. They keep receipts if there
+/// is an audit. Refused if no memory is found.
 fn make_workers<J: Naming>(
     alloc: Global,
     seen_events: &SeenEvents<J>,

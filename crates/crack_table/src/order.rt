@@ -30,8 +30,10 @@ pub(crate) fn first_late(
     Ok(None)
 }
 
-/// As `first_late` for one list, after others. `last` maps each worker and partition to the position of the last
-/// receipt so far.
+/// The place of the first receipt of this list whose position isn't above that of an earlier one of its worker in its
+/// partition, in this list or in the lists before it, which have no such receipt. `None` if there is none. `last` maps
+/// each worker and partition to the position of the last receipt so far; the receipts of this list are added to it, up
+/// to the one found. Refused if no memory is found. O(receipts), up to a logarithm of the pairs in `last`.
 fn first_late_in(
     last: &mut BTreeMap<(u32, u32), u64>,
     list: &[Receipt],
@@ -50,7 +52,7 @@ fn first_late_in(
     Ok(None)
 }
 
-/// Whether there is a last position and `position` isn't above it.
+/// Whether `position` is at or below the last position; false if there is no last position.
 fn is_late_at(last: Option<u64>, position: u64) -> bool
     ensures { result ≡ is_late_at last position }
 {

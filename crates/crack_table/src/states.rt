@@ -42,7 +42,8 @@ impl PlaceStates {
         Ok(PlaceStates { states })
     }
 
-    /// Updates a place's state after one more receipt names it, by whether the receipt holds the entry there.
+    /// Changes a place's state after one more receipt names the place: to `Met` if it was `Unnamed` and `right` is
+    /// true, else to `Failed`. `right` is whether the receipt holds the entry there. O(1).
     pub(crate) fn update(&mut self, place: usize, right: bool)
         requires { place < length self.old }
         ensures { (m : PlaceState) → slice_get self.old place ≡ Some m → self.new ≡ slice_set self.old place

@@ -66,7 +66,7 @@ impl<J: Naming> Table<J> {
         let _ = &self.locks;
     }
 
-    /// Where one partition ends and the next begins. Takes no lock and no memory.
+    /// The table's splits: where one partition ends and the next begins. Takes no lock and no memory. O(1).
     pub fn splits(&self) -> &[Bound]
         ensures value { result.now ≡ self.now.splits }
         ensures rising { AreSplits result.now }
@@ -82,14 +82,18 @@ impl<J: Naming> Table<J> {
         self.workers
     }
 
-    /// Executes a worker's command on partition `part`, under the partition's lock, for which it may wait. Refused,
-    /// in this order: with `NoSuchPartition` if there is no such partition; under the lock with `GateGaveUp` if the
-    /// gate refuses `GATE_TURNS` times; if the worker is another table's, with `NoSuchPartition` or with
-    /// `StrangeReceipt`, which carries `part` and the number of its replies there; then as `Partition::apply` is,
-    /// with `KeyOutside`, `HistoryFull`, `LifeOver`, `NoCell` and `OutOfMemory`. After a refusal nothing was seen or
-    /// written. The gate is notified of a checkpoint that was due. Costs, beyond `Partition::apply`, O(1) and the
-    /// calls of the gate, and no memory; with an audit O(1), amortised, the copies of a select's list, and the memory
-    /// of an entry and a receipt.
+    /// Executes a worker's command on partition `part`, under the partition's lock, for which it may wait. The gate
+    /// decides, under the lock, when the command is executed; it is notified if the partition first made a checkpoint,
+    /// because its history was full.
+    ///
+    /// Refused, in this order: with `NoSuchPartition` if there is no such partition; under the lock with `GateGaveUp`
+    /// if the gate refuses `GATE_TURNS` times; if the worker is another table's, with `NoSuchPartition` or with
+    /// `StrangeReceipt`, which carries `part` and the number of its replies there; then as `Partition::apply` is, with
+    /// `KeyOutside`, `HistoryFull`, `LifeOver`, `NoCell` and `OutOfMemory`. After a refusal the worker has seen no
+    /// more events, and no entry and no receipt is added.
+    ///
+    /// Costs, beyond `Partition::apply`, O(1) and the calls of the gate, and no memory; with an audit O(1), amortised,
+    /// the copies of a select's list, and the memory of an entry and a receipt.
     pub fn ask<R: Wait, G: Gate>(
         &self,
         rt: &R,
@@ -121,10 +125,10 @@ impl<J: Naming> Table<J> {
         Ok(reply)
     }
 
-    /// Makes a checkpoint of partition `part` under its lock, for which it may wait. Returns how many commands were
-    /// answered since the last one. The rows and the history stay whole for all workers. Refused with
-    /// `NoSuchPartition` if there is no such partition. Holds this one lock for the time that
-    /// `Partition::checkpoint` takes.
+    /// Makes a checkpoint of partition `part` under its lock, for which it may wait. Returns how many commands the
+    /// partition answered since the last one. No row changes, and the history keeps all its entries. Refused with
+    /// `NoSuchPartition` if there is no such partition. Holds this one lock for the time that `Partition::checkpoint`
+    /// takes.
     pub fn checkpoint<R: Wait>(&self, rt: &R, part: u32) -> Result<u64, Refusal>
         ensures { AnswersAt self.now part (λ e. ⊥) result }
     {
@@ -135,9 +139,9 @@ impl<J: Naming> Table<J> {
         Ok(witnessed.checkpoint())
     }
 
-    /// The layout of partition `part`, read under its lock, for which it may wait. Cracks and merges nothing, and
-    /// isn't recorded. Refused with `NoSuchPartition` if there is no such partition, and with `OutOfMemory` if no
-    /// memory is found. O(pieces).
+    /// The layout of partition `part`, read under its lock, for which it may wait. Cracks and merges nothing, and adds
+    /// no entry to the history. Refused with `NoSuchPartition` if there is no such partition, and with `OutOfMemory`
+    /// if no memory is found. O(pieces).
     pub fn layout<R: Wait>(&self, rt: &R, part: u32) -> Result<Layout, Refusal>
         ensures { LooksAt self.now part result }
     {
@@ -148,8 +152,8 @@ impl<J: Naming> Table<J> {
         witnessed.partition().layout()
     }
 
-    /// The statistics of partition `part`, read under its lock, for which it may wait. Cracks and merges nothing,
-    /// and isn't recorded. Refused with `NoSuchPartition` if there is no such partition. O(1).
+    /// The statistics of partition `part`, read under its lock, for which it may wait. Cracks and merges nothing, and
+    /// adds no entry to the history. Refused with `NoSuchPartition` if there is no such partition. O(1).
     pub fn statistics<R: Wait>(&self, rt: &R, part: u32) -> Result<Statistics, Refusal>
         ensures { MeasuresAt self.now part result }
     {

@@ -17,7 +17,8 @@ pub(crate) struct HistoryTotals {
     pub(crate) held: u64,
 }
 
-/// The totals of the partitions' histories. O(partitions).
+/// The totals of the partitions together: of the commands that they accepted, and of the rows that were inserted, were
+/// deleted, and are live. O(partitions).
 pub(crate) fn sums_of<J: Naming>(parts: &Vec<Witnessed<J>>) -> HistoryTotals
     requires whole { All (λ (w : WitnessedState). IsWhole J.owner w) parts.now.items }
     requires sound { All (λ (w : WitnessedState). IsSound w.held) parts.now.items }
@@ -34,7 +35,7 @@ pub(crate) fn sums_of<J: Naming>(parts: &Vec<Witnessed<J>>) -> HistoryTotals
     }
 }
 
-/// How many commands the partitions accepted.
+/// How many commands all the partitions accepted together. O(partitions).
 fn accepted_in<J: Naming>(parts: &Vec<Witnessed<J>>) -> u64
     requires { sum_by (λ (w : WitnessedState). accepted_of (table_of w.held)) parts.now.items < 2 ^ 64 }
     ensures { result ≡ sum_by (λ (w : WitnessedState). accepted_of (table_of w.held)) parts.now.items }
@@ -42,7 +43,7 @@ fn accepted_in<J: Naming>(parts: &Vec<Witnessed<J>>) -> u64
     parts.iter().map(|part| part.partition().accepted()).sum()
 }
 
-/// How many rows were inserted into the partitions.
+/// How many rows were inserted into all the partitions together. O(partitions).
 fn inserted_in<J: Naming>(parts: &Vec<Witnessed<J>>) -> u64
     requires { sum_by (λ (w : WitnessedState). w.held.next) parts.now.items < 2 ^ 64 }
     ensures { result ≡ sum_by (λ (w : WitnessedState). w.held.next) parts.now.items }
@@ -50,7 +51,7 @@ fn inserted_in<J: Naming>(parts: &Vec<Witnessed<J>>) -> u64
     parts.iter().map(|part| part.partition().insertions()).sum()
 }
 
-/// How many live rows the partitions have.
+/// How many live rows all the partitions have together. O(partitions).
 fn rows_in<J: Naming>(parts: &Vec<Witnessed<J>>) -> u64
     requires { sum_by (λ (w : WitnessedState). length (live_rows w.held.store)) parts.now.items < 2 ^ 64 }
     ensures { result ≡ sum_by (λ (w : WitnessedState). length (live_rows w.held.store)) parts.now.items }

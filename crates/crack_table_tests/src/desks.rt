@@ -106,16 +106,16 @@ fn assert_session<D: Desk>(
     assert_eq!(rt; text.as_slice(), replies);
     drop(text);
     let (how, statements) = end;
-    let told = SessionEnd {
+    let expected = SessionEnd {
         how,
         statements,
         first_short: None,
     };
-    assert_eq!(rt; ended, Ok(told));
+    assert_eq!(rt; ended, Ok(expected));
 }
 
 #[test]
-fn a_core_is_told_the_script(rt: HostRuntime) {
+fn a_core_answers_the_script(rt: HostRuntime) {
     let alloc: Global = rt.alloc();
     let splits = bounds(&rt, alloc, HUNDRED);
     let mut core = Core::open(alloc, &splits, GREATEST_LIMIT).expect(&rt, "a core");

@@ -78,10 +78,10 @@ fn ask_all<J: Naming, R: Abort + Wait>(
         let now = ask_beside(rt, worker, table, &mut plain, command, policy);
         refused = refused.saturating_add(now);
     }
-    let told = [plain.accepted(), plain.rows().len() as u64];
+    let expected = [plain.accepted(), plain.rows().len() as u64];
     drop(plain);
     assert!(rt; refused <= 1);
-    told
+    expected
 }
 
 /// Gathers the workers, at the second try at the latest.
@@ -121,14 +121,14 @@ impl Trial for Short {
     ) {
         let mut workers = workers;
         let mut worker = workers.pop().expect(rt, "a worker");
-        let told = ask_all(rt, alloc, &mut worker, &table);
-        let receipts = if self.is_audited { told[0] } else { 0 };
-        assert!(rt; counts(&worker) == [told[0], receipts]);
+        let expected = ask_all(rt, alloc, &mut worker, &table);
+        let receipts = if self.is_audited { expected[0] } else { 0 };
+        assert!(rt; counts(&worker) == [expected[0], receipts]);
         give_back(rt, &mut workers, worker);
         let gathered = gather_at_last(rt, alloc, table, workers);
         let totals = [gathered.accepted, gathered.held];
         drop(gathered);
-        assert_eq!(rt; totals, told);
+        assert_eq!(rt; totals, expected);
     }
 }
 

@@ -27,35 +27,37 @@ const ASKED: &[(usize, u32, &str, Option<Refusal>)] = &[
     (0, 2, "delete 2.0", None),
 ];
 
-/// Whether a receipt is the expected one, `told`.
-fn is_told(receipt: &Receipt, told: &Receipt) -> bool {
+/// Whether a receipt is the expected one.
+fn is_expected(receipt: &Receipt, expected: &Receipt) -> bool {
     let place = [u64::from(receipt.part), receipt.position];
-    place == [u64::from(told.part), told.position]
-        && receipt.worker == told.worker
-        && receipt.command == told.command
-        && receipt.reply.is_same(&told.reply)
+    place == [u64::from(expected.part), expected.position]
+        && receipt.worker == expected.worker
+        && receipt.command == expected.command
+        && receipt.reply.is_same(&expected.reply)
 }
 
-/// Whether an entry is the one of the expected receipt, `told`.
-fn is_entry(entry: &Entry, told: &Receipt) -> bool {
-    entry.worker == told.worker && entry.command == told.command && entry.reply.is_same(&told.reply)
+/// Whether an entry is the one of the expected receipt.
+fn is_entry(entry: &Entry, expected: &Receipt) -> bool {
+    entry.worker == expected.worker
+        && entry.command == expected.command
+        && entry.reply.is_same(&expected.reply)
 }
 
 /// How many of the expected receipts are of a partition.
-fn number_in(told: &Vec<Receipt>, part: u32) -> u64 {
+fn number_in(expected: &Vec<Receipt>, part: u32) -> u64 {
     let mut number = 0u64;
-    'told: for one in told {
+    'receipts: for one in expected {
         number = number.saturating_add(u64::from(one.part == part));
     }
     number
 }
 
-/// Asserts that a worker has one reply and, with an audit, one receipt more than before: the expected one, `told`.
+/// Asserts that a worker has one reply and, with an audit, one receipt more than before: the expected one.
 fn assert_receipt<J: Naming>(
     rt: &impl Abort,
     worker: &Worker<J>,
     before: [u64; 2],
-    told: &Receipt,
+    expected: &Receipt,
     is_audited: bool,
 ) {
     let [replies, receipts] = before;
@@ -63,7 +65,7 @@ fn assert_receipt<J: Naming>(
     let list = worker.receipts();
     if is_audited {
         assert!(rt; list.len() as u64 == receipts.saturating_add(1));
-        assert!(rt; is_told(list.last().expect(rt, "a receipt"), told));
+        assert!(rt; is_expected(list.last().expect(rt, "a receipt"), expected));
     } else {
         assert!(rt; list.is_empty());
     }
@@ -76,7 +78,7 @@ fn ask_one<J: Naming, R: Wait + Abort>(
     table: &Table<J>,
     worker: &mut Worker<J>,
     asked: (u32, &str, Option<Refusal>),
-    told: &mut Vec<Receipt>,
+    expected: &mut Vec<Receipt>,
     is_audited: bool,
 ) {
     let (part, line, refusal) = asked;
@@ -87,13 +89,13 @@ fn ask_one<J: Naming, R: Wait + Abort>(
         Ok(reply) => {
             let receipt = Receipt {
                 part,
-                position: number_in(told, part),
+                position: number_in(expected, part),
                 worker: worker.number(),
                 command,
                 reply,
             };
             assert_receipt(rt, worker, before, &receipt, is_audited);
-            assert!(rt; refusal.is_none() && told.push(receipt).is_ok());
+            assert!(rt; refusal.is_none() && expected.push(receipt).is_ok());
         }
         Err(error) => {
             let after = [worker.replies(), worker.receipts().len() as u64];
@@ -107,7 +109,7 @@ fn ask_all<J: Naming, R: Wait + Abort>(
     rt: &R,
     table: &Table<J>,
     workers: &mut Vec<Worker<J>>,
-    told: &mut Vec<Receipt>,
+    expected: &mut Vec<Receipt>,
     is_audited: bool,
 ) {
     'asked: for place in 0..ASKED.len() {
@@ -115,7 +117,14 @@ fn ask_all<J: Naming, R: Wait + Abort>(
         let Some(worker) = workers.get_mut(number) else {
             panic!(rt; "no such worker");
         };
-        ask_one(rt, table, worker, (part, line, refusal), told, is_audited);
+        ask_one(
+            rt,
+            table,
+            worker,
+            (part, line, refusal),
+            expected,
+            is_audited,
+        );
         assert!(rt; table.checkpoint(rt, 2).is_ok());
     }
 }
@@ -126,7 +135,7 @@ fn assert_list<J: Naming>(
     rt: &impl Abort,
     gathered: &Gathered<J>,
     part: u32,
-    told: &Vec<Receipt>,
+    expected: &Vec<Receipt>,
     is_audited: bool,
 ) {
     let witnessed = gathered.parts.get(part as usize).expect(rt, "a partition");
@@ -134,8 +143,8 @@ fn assert_list<J: Naming>(
         assert!(rt; !is_audited);
         return;
     };
-    assert!(rt; is_audited && list.len() as u64 == number_in(told, part));
-    'told: for one in told {
+    assert!(rt; is_audited && list.len() as u64 == number_in(expected, part));
+    'receipts: for one in expected {
         if one.part == part {
             let entry = list.get(one.position as usize).expect(rt, "an entry");
             assert!(rt; is_entry(entry, one));
@@ -158,15 +167,15 @@ impl Trial for Keeping {
         workers: Vec<Worker<J>>,
     ) {
         let mut workers = workers;
-        let mut told = Vec::new(alloc);
-        ask_all(rt, &table, &mut workers, &mut told, self.is_audited);
+        let mut expected = Vec::new(alloc);
+        ask_all(rt, &table, &mut workers, &mut expected, self.is_audited);
         let gathered = gather(alloc, table, workers).ok().expect(rt, "gathered");
         'parts: for part in 0..4u32 {
-            assert_list(rt, &gathered, part, &told, self.is_audited);
+            assert_list(rt, &gathered, part, &expected, self.is_audited);
         }
         let totals = totals_in(&gathered);
         drop(gathered);
-        drop(told);
+        drop(expected);
         assert!(rt; totals == [10, 3, 1, 2]);
     }
 }

@@ -90,11 +90,11 @@ fn text_of(answer: Result<Output, Refusal>) -> Output {
 
 /// Asserts that a text is the wanted answer to a line of a test.
 fn assert_text(rt: &impl Abort, text: &[u8], name: &str, line: &str, wanted: &str) {
-    let told = match text.split_last() {
-        Some((b'\n', told)) => told,
+    let found = match text.split_last() {
+        Some((b'\n', found)) => found,
         _ => text,
     };
-    assert!(rt; told == wanted.as_bytes(), "{name}: {line}");
+    assert!(rt; found == wanted.as_bytes(), "{name}: {line}");
 }
 
 /// Asserts that a worker gets the wanted answer to a line of a test.

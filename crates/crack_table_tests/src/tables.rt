@@ -136,10 +136,10 @@ fn openings_are_refused_in_order(rt: HostRuntime) {
     let alloc: Global = rt.alloc();
     'openings: for place in 0..OPENINGS.len() {
         let (splits, limit, workers, refusal) = OPENINGS[place];
-        let told = [
+        let refusals = [
             refused(&rt, alloc, splits, limit, workers, false),
             refused(&rt, alloc, splits, limit, workers, true),
         ];
-        assert!(rt; told == [refusal, refusal]);
+        assert!(rt; refusals == [refusal, refusal]);
     }
 }

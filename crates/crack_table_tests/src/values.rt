@@ -72,9 +72,9 @@ pub(crate) fn assert_totals<J: Naming>(
     wanted: [u64; 4],
 ) {
     let gathered = gather(alloc, table, workers).ok().expect(rt, "gathered");
-    let told = totals_in(&gathered);
+    let found = totals_in(&gathered);
     drop(gathered);
-    assert_eq!(rt; told, wanted);
+    assert_eq!(rt; found, wanted);
 }
 
 /// An insert of a key.

@@ -36,7 +36,7 @@ impl Model for TagList {
 }
 
 impl TagList {
-    /// Makes an empty list. Takes no memory.
+    /// Makes an empty list. O(1), takes no memory.
     pub fn new(alloc: Global) -> TagList
         ensures { result ≡ record { handles = []; remembered = []; capacity = 0 } }
     {
@@ -55,7 +55,7 @@ impl TagList {
         mem::replace(self, TagList::new(alloc))
     }
 
-    /// The labels and the payloads. O(1).
+    /// The labels and the payloads, as two lists of the same length. O(1).
     pub fn into_lists(self) -> (Vec<Label>, Vec<Payload>)
         ensures handles { handles_of result.0.items ≡ self.handles }
         ensures remembered { memories_of result.0.items result.1.items ≡ self.remembered }
@@ -73,7 +73,7 @@ impl TagList {
         self.labels.len()
     }
 
-    /// The number of handles that fit in the memory that was taken. O(1).
+    /// The number of handles that fit in the memory that was taken, including the list's handles. O(1).
     #[inline(always)]
     pub fn capacity(&self) -> usize
         ensures { result ≡ self.now.capacity }
@@ -81,7 +81,7 @@ impl TagList {
         self.labels.capacity().min(self.payloads.capacity())
     }
 
-    /// The handle at the spot. O(1).
+    /// The handle at the spot, counted from 0. O(1).
     #[inline(always)]
     pub fn handle(&self, spot: usize) -> Handle<Row>
         requires { spot < length self.now.handles }
@@ -90,7 +90,7 @@ impl TagList {
         self.labels[spot].handle
     }
 
-    /// The key that is remembered of the row at the spot, or `UNKNOWN_KEY`. O(1).
+    /// The key that is remembered of the row at the spot, or `UNKNOWN_KEY` if none is. O(1).
     #[inline(always)]
     pub fn key(&self, spot: usize) -> KeyNumber
         requires { spot < length self.now.handles }
@@ -99,7 +99,7 @@ impl TagList {
         self.labels[spot].key
     }
 
-    /// What is remembered of the row at the spot. O(1).
+    /// The key and payload that are remembered of the row at the spot. O(1).
     #[inline(always)]
     pub fn memory(&self, spot: usize) -> Remembered
         requires { spot < length self.now.handles }
@@ -108,7 +108,7 @@ impl TagList {
         Remembered::new(self.labels[spot].key, self.payloads[spot])
     }
 
-    /// Replaces what is remembered of the row at the spot. O(1).
+    /// Replaces what is remembered of the row at the spot by `memory`. O(1).
     #[inline(always)]
     pub fn remember(&mut self, spot: usize, memory: Remembered)
         requires { spot < length self.old.handles }
@@ -122,7 +122,8 @@ impl TagList {
         self.payloads[spot] = memory.payload();
     }
 
-    /// Replaces the handle at the spot `low`, and what is remembered of its row, by those at `spot`. O(1).
+    /// Copies the handle at `spot`, and what is remembered of its row, to the spot `low`. What was at `low` is
+    /// dropped. O(1).
     #[inline(always)]
     pub fn move_down(&mut self, low: usize, spot: usize)
         requires low { low < length self.old.handles }
@@ -133,7 +134,7 @@ impl TagList {
         self.payloads[low] = self.payloads[spot];
     }
 
-    /// Appends the handle, with what is remembered of its row. There must be room. O(1).
+    /// Appends the handle, with what is remembered of its row. There must be room for it. O(1), takes no memory.
     #[inline(always)]
     pub fn push_reserved(&mut self, handle: Handle<Row>, memory: Remembered)
         requires { length self.old.handles < self.old.capacity }
@@ -149,7 +150,7 @@ impl TagList {
         self.payloads.push_reserved(memory.payload());
     }
 
-    /// Keeps only this many of the first handles, if there are more. Keeps the memory. O(1).
+    /// Removes the handles after the first `len`, if there are more. Frees no memory. O(1).
     pub fn truncate(&mut self, len: usize)
         ensures { self.new ≡ record self.old {
           handles = take len self.old.handles;
@@ -160,7 +161,8 @@ impl TagList {
         self.payloads.truncate(len);
     }
 
-    /// Makes room for this many more handles. Refused with `OutOfMemory` if no memory is found.
+    /// Makes room for this many more handles. O(1), except for growth. Refused with `OutOfMemory` if no memory is
+    /// found; then the handles are unchanged.
     pub fn reserve(&mut self, additional: usize) -> Result<(), Refusal>
         ensures handles { self.new.handles ≡ self.old.handles }
         ensures remembered { self.new.remembered ≡ self.old.remembered }
@@ -173,8 +175,8 @@ impl TagList {
         Ok(())
     }
 
-    /// Frees memory beyond that for `len` handles, or for those that there are if they are more. Memory that the
-    /// allocator doesn't take back stays.
+    /// Frees memory that isn't needed for `len` handles, or for the list's handles if they are more. Memory that the
+    /// allocator doesn't take back stays. O(handles).
     pub fn shrink_to(&mut self, len: usize)
         ensures handles { self.new.handles ≡ self.old.handles }
         ensures remembered { self.new.remembered ≡ self.old.remembered }

@@ -1,5 +1,7 @@
 -- What private clauses alone cite.
--- The invariants of history writers, owners and workers.
+-- The invariants of history writers, owners and workers. Beside its events a book has cells, which aren't an arena's,
+-- each with a flag. A pen is the right to set the flag of one cell. A step accesses a word; its key is a cell's
+-- number. `owner` gives each partition's owner, its number in the book.
 use Rattle.std.specs.Global.{Vec}
 use Rattle.std.specs.Prelude.{ℕ, Option, IfSome, vec_len, vec_capacity, slice_index_or, ◌≡◌, ◌⊎◌, ◌<◌, ◌≤◌, ◌^◌, All, List, [], ◌∷◌, ◌++◌, length, sum_by, true}
 use mathlib.Core.List.{IsPrefix}
@@ -26,7 +28,7 @@ Among P (x ∷ xs) = P x ⊎ Among P xs
 abbrev pub HasOwner : ℕ → List Event → Type 0
 HasOwner owner log = Among (λ (e : Event). e.owner ≡ owner) log
 
--- one of the events is at this word
+-- one of the events has the word with this key
 abbrev pub HasWord : ℕ → List Event → Type 0
 HasWord k log = Among (λ (e : Event). e.word ≡ k) log
 
@@ -34,8 +36,9 @@ HasWord k log = Among (λ (e : Event). e.word ≡ k) log
 abbrev pub named : Book → ℕ → Named
 named b k = record { tracked = true; key = k; book = b }
 
--- the invariant of a history writer of this owner: the last event seen is the owner's, at the history writer's word,
--- and names the pen's cell
+-- The invariant of a history writer of this owner in the book `b`. `pen` is the book of its pen, and `seen` that of
+-- the events `log` that it has seen; both are `b`, and so is the book of its word `word`. The pen's right `right` is
+-- to write. The last event is the owner's, has the key of `word`, and names the cell `key`, whose flag the pen sets.
 pub record IsHistoryWriter (b : Book) (owner : ℕ) (word : Named) (pen : Book) (key : ℕ) (right : Right) (seen : Book) (log : List Event) : Type 0 where
   pub word_is : word ≡ named b word.key
   pub pen_is : pen ≡ b
@@ -48,32 +51,33 @@ pub record IsHistoryWriter (b : Book) (owner : ℕ) (word : Named) (pen : Book) 
   pub next_is : last.next ≡ key
   pub at_word : last.word ≡ word.key
 
--- this is an owner in this book, and it has no entry
+-- `o` is an owner in the book `b`, and has no entry among the events that it has seen
 pub record IsNew (b : Book) (o : OwnerState) : Type 0 where
   pub book_is : o.book ≡ b
   pub empty : history_of o.id o.log ≡ []
 
--- this is the owner of partition `part`, and it has no entry
+-- `o` is the owner of partition `part` in the book `b`, and has no entry among the events that it has seen
 pub record IsOwnerAt (b : Book) (owner : ℕ → ℕ) (part : ℕ) (o : OwnerState) : Type 0 where
   pub book_is : o.book ≡ b
   pub id_is : o.id ≡ owner part
   pub empty : history_of (owner part) o.log ≡ []
 
--- these are the owners of the partitions, in order, without an entry
+-- these are the owners of the partitions 0, 1, .. in this book, in order, and none has an entry (`IsOwnerAt`)
 abbrev pub AreOwners : Book → (ℕ → ℕ) → List OwnerState → Type 0
 AreOwners b owner os = (k : ℕ) (d : OwnerState) → k < length os → IsOwnerAt b owner k (slice_index_or os k d)
 
--- the count at a worker's number is the number of the worker's entries
+-- for each worker whose number is an index of `counts`, the count there is how many of these entries are the worker's
 abbrev pub AreCounts : List ℕ → List Entry → Type 0
 AreCounts counts es = (worker : ℕ) → worker < length counts → slice_index_or counts worker 0 ≡ length (calls_by worker es)
 
--- each key in a command of the entries is one of these
+-- each key in a command of the entries is one of `keys`
 abbrev pub AreWithin : Range → List Entry → Type 0
 AreWithin keys es = All (λ (e : Entry). IfSome (key_of e.command) (λ (key : Key). IsIn keys key.0)) es
 
--- A worker counts its entries at each partition, among the events that it had seen after its last reply there, which
--- begin those that it has seen now. There are at most 64 partitions, and each count is at most 2 ^ 41. With an audit
--- there is a receipt for each reply.
+-- The invariant of a worker. `seen` are the events that it has seen. `seen_by_part` has for each partition the events
+-- that it had seen after its last reply there, which begin `seen`. `counts` has for each partition the number of the
+-- worker's entries there among these latter events. There are at most 64 partitions, and each count is at most 2 ^ 41.
+-- With an audit `receipts` has a receipt for each reply.
 pub record IsWorker (owner : ℕ → ℕ) (worker : ℕ) (seen : List Event) (seen_by_part : List (List Event)) (counts : List ℕ) (receipts : Option (List Receipt)) : Type 0 where
   pub all : length counts ≡ length seen_by_part
   pub few : length counts ≤ 64

@@ -1,5 +1,6 @@
--- What contracts see of an opened book, of witnessed partitions and of their workers. A book is the list of the
--- events of all partitions, which exists only in proofs; a partition's owner is its number there.
+-- What contracts see of an opened book, of witnessed partitions and of their workers. A book is the list of the events
+-- of all partitions, which exists only in proofs; a partition's owner is its number there, which `owner` gives. An
+-- entry is an answered command. `w` is a partition with its history, and `a` a worker.
 use Rattle.std.specs.Prelude.{◌≡◌, ◌≢◌, Bool, ℕ, ◌+◌, ◌<◌, ◌≤◌, ◌⊎◌, List, [], ◌∷◌, ◌++◌, length, sum_by, take, All, Any, AllPairs, Option, Some, IfSome, unwrap_or, slice_index_or, replicate}
 use mathlib.Core.List.{IsPrefix}
 use Rattle.logbook.specs.Pages.{Book}
@@ -25,12 +26,12 @@ pub record OpenedState : Type 0 where
 abbrev pub AreDistinct : List ℕ → Type 0
 AreDistinct ids = AllPairs (λ (one other : ℕ). one ≢ other) ids
 
--- the book is the opened one, and each partition's owner is the one at the partition's number
+-- `book` is the opened book, and the owner of each partition is the one at the partition's number in `opened.ids`
 pub record AreNames (book : Book) (owner : ℕ → ℕ) (opened : OpenedState) : Type 0 where
   pub book_is : book ≡ opened.book
   pub owner_is : (part : ℕ) → owner part ≡ slice_index_or opened.ids part 0
 
--- no two of this many partitions have the same owner, and so the same history
+-- of the partitions with numbers below `count`, no two have the same owner, and so the same history
 abbrev pub OwnersDiffer : (ℕ → ℕ) → ℕ → Type 0
 OwnersDiffer owner count = (one other : ℕ) → one < other → other < count → owner one ≢ owner other
 
@@ -47,10 +48,10 @@ pub record WitnessedState : Type 0 where
 abbrev pub past_of : (ℕ → ℕ) → WitnessedState → Past
 past_of owner w = past_in (history_of (owner w.part) w.log) (table_of w.held)
 
--- A partition's plain rows are those after its history, which has as many entries as the partition accepted
--- commands. Each reply in the history is that of the plain rows there, each entry is by one of its workers, and the
--- list of an audit is the history. The past is possible for the partition's keys and limits: each key in it is one of
--- these keys, and the limits bound the entries since the last checkpoint and the accepted commands.
+-- A partition's plain rows are those after its history, which has as many entries as the partition accepted commands.
+-- Each reply in a history is that of the plain rows after the entries before it. Each entry is by a worker that the
+-- partition counts, and the list of an audit is the history. The past is possible (`IsLegal`): each key in it is one
+-- of the partition's, and the limits bound the entries since the last checkpoint and all accepted commands.
 pub record IsWhole (owner : ℕ → ℕ) (w : WitnessedState) : Type 0 where
   pub legal : AreHistories w.log
   pub kept : IsPastOf (history_of (owner w.part) w.log) (table_of w.held)
@@ -58,14 +59,15 @@ pub record IsWhole (owner : ℕ → ℕ) (w : WitnessedState) : Type 0 where
   pub listed : IfSome w.entries (λ entries. entries ≡ history_of (owner w.part) w.log)
   pub past : IsLegal w.held.keys w.held.limits (past_of owner w)
 
--- A past has as many commands as the partition accepted, and as many insertions as the partition gave serials. The
--- rows are the inserted ones minus the deleted ones.
+-- A past has as many commands as the partition accepted, and as many insertions as the partition gave serials. There
+-- are as many live rows as were inserted in the past minus those deleted.
 pub record HasTotals (past : Past) (held : Part) : Type 0 where
   pub accepted : accepted_in past ≡ accepted_of (table_of held)
   pub inserted : inserted_in past ≡ held.next
   pub rows : length (state_of held).rows + deleted_in past ≡ held.next
 
--- a partition with this number and no entry yet, whose list of entries is empty, if there is an audit
+-- `w` is the partition `held` with the number `part` and no entry yet, which counts the entries of this many workers;
+-- with an audit its list of entries is empty, else there is none
 pub record IsNewAt (owner : ℕ → ℕ) (workers : ℕ) (audited : Bool) (part : ℕ) (held : Part) (w : WitnessedState) : Type 0 where
   pub part_is : w.part ≡ part
   pub held_is : w.held ≡ held
@@ -73,21 +75,22 @@ pub record IsNewAt (owner : ℕ → ℕ) (workers : ℕ) (audited : Bool) (part 
   pub empty : history_of (owner part) w.log ≡ []
   pub entries_are : w.entries ≡ empty_list audited
 
--- these are witnessed partitions without an entry, numbered in order from `number`, one for each partition of the
--- list
+-- `ws` has for each partition of `ps` one that is new by `IsNewAt`, in order. The first has the number `number`, and
+-- the others the next numbers. They count the entries of `workers` workers. The lists are equally long.
 abbrev pub AreNewFrom : (ℕ → ℕ) → ℕ → Bool → ℕ → List Part → List WitnessedState → Type 0
 AreNewFrom owner workers audited number [] [] = Unit {0}
 AreNewFrom owner workers audited number (p ∷ ps) (w ∷ ws) = IsNewAt owner workers audited number p w × AreNewFrom owner workers audited (number + 1) ps ws
 AreNewFrom owner workers audited number _ _ = ⊥
 
--- the partition counts the worker's entries, and its history has this many of them
+-- the partition counts the worker's entries, and its history has `count` of them
 pub record IsInStep (owner : ℕ → ℕ) (w : WitnessedState) (worker count : ℕ) : Type 0 where
   pub one : worker < w.workers
   pub same : length (calls_by worker (history_of (owner w.part) w.log)) ≡ count
 
--- why a partition may refuse a worker that has received this many replies there: `StrangeReceipt` if its history has
--- another number of the worker's entries, or it doesn't count them; otherwise `OutOfMemory`, or as the partition
--- refuses the command
+-- why a partition may refuse a command of the worker with this number, which has received `count` replies there:
+-- `StrangeReceipt`, only if the partition's history, that of its owner, hasn't `count` entries of the worker, or the
+-- worker's number isn't below the number of workers whose entries the partition counts; or `OutOfMemory`; or as the
+-- partition refuses the command
 abbrev pub MayRefuseIt : (ℕ → ℕ) → WitnessedState → ℕ → ℕ → Command → Refusal → Type 0
 MayRefuseIt owner w worker count command e =
     ((e ≡ StrangeReceipt w.part count) × (IsInStep owner w worker count → ⊥))
@@ -103,7 +106,8 @@ pub record WorkerState : Type 0 where
   pub counts : List ℕ
   pub receipts : Option (List Receipt)
 
--- a worker with this number at this many partitions that has seen no entry, and has received no reply and no receipt
+-- `a` is the worker with this number, for `parts` partitions, and has seen no entry and received no reply; with an
+-- audit its list of receipts is empty, else there is none
 pub record IsNewWorker (number parts : ℕ) (audited : Bool) (a : WorkerState) : Type 0 where
   pub worker_is : a.worker ≡ number
   pub unseen : AreEmpty a.seen
@@ -111,41 +115,41 @@ pub record IsNewWorker (number parts : ℕ) (audited : Bool) (a : WorkerState) :
   pub counts_are : a.counts ≡ replicate parts 0
   pub receipts_are : a.receipts ≡ empty_list audited
 
--- what was seen of the partition's history now ends with the entry, and what was seen of it before precedes the
--- entry
+-- in the events `new` the partition's history ends with the entry; in the events `old`, seen earlier, the history is
+-- a prefix of the entries before that one
 pub record IsGiven (owner : ℕ → ℕ) (part : ℕ) (entry : Entry) (old new : List Event) : Type 0 where
   pub before : List Entry
   pub ends : history_of (owner part) new ≡ before ++ entry ∷ []
   pub begins : IsPrefix (history_of (owner part) old) before
 
--- a partition's history has exactly the entries of a worker for which it received replies
+-- of the worker's entries, a partition's history has exactly those for which the worker received replies
 abbrev pub HasJustItsOwn : (ℕ → ℕ) → WorkerState → WitnessedState → Type 0
 HasJustItsOwn owner a w = calls_at owner w.part a.worker w.log ≡ calls_at owner w.part a.worker (slice_index_or a.seen_by_part w.part [])
 
--- what a worker has seen of a partition's history is a prefix of it, and the history has exactly the worker's
--- entries for which it received replies
+-- what a worker has seen of a partition's history is a prefix of it, and of the worker's entries the history has
+-- exactly those for which the worker received replies
 pub record HasSeen (owner : ℕ → ℕ) (a : WorkerState) (w : WitnessedState) : Type 0 where
   pub covered : IsPrefix (history_of (owner w.part) a.seen) (history_of (owner w.part) w.log)
   pub mine : calls_at owner w.part a.worker w.log ≡ calls_at owner w.part a.worker (slice_index_or a.seen_by_part w.part [])
 
--- a partition's history doesn't have exactly the entries of a worker for which it received replies, or one doesn't
--- know of the other
+-- of the worker's entries, a partition's history hasn't exactly those for which the worker received replies; or the
+-- worker knows of no partition with this number; or the partition doesn't count the worker's entries
 abbrev pub Differs : (ℕ → ℕ) → WorkerState → WitnessedState → Type 0
 Differs owner a w = w.part < length a.seen_by_part → a.worker < w.workers → HasJustItsOwn owner a w → ⊥
 
--- the number of a worker's replies from partition `part`
+-- the number of a worker's replies from partition `part`; 0 if it knows of no such partition
 abbrev pub replies_at : WorkerState → ℕ → ℕ
 replies_at a part = slice_index_or a.counts part 0
 
--- the partition has this number, and its history has as many entries of the worker as the worker received replies
--- there
+-- the partition has the number `part` and counts the worker's entries, and its history has as many of them as the
+-- worker received replies there
 abbrev pub KnowsHistory : (ℕ → ℕ) → WorkerState → ℕ → WitnessedState → Type 0
 KnowsHistory owner a part w = (w.part ≡ part) × IsInStep owner w a.worker (replies_at a part)
 
--- Why a worker that asks partition `part` may be refused by the partition that is passed: `NoSuchPartition` if the
--- worker knows of none with this number; `StrangeReceipt`, with `part` and the number of the worker's replies
--- there, if the partition has another number, or another count of the worker's entries; otherwise `OutOfMemory`, or
--- as the partition refuses the command.
+-- Why the partition `w` may refuse a command that a worker asks of partition `part`: `NoSuchPartition`, only if the
+-- worker knows of none with this number; `StrangeReceipt`, with `part` and the number of the worker's replies there,
+-- only if `w` has another number, doesn't count the worker's entries, or has another number of them in its history;
+-- `OutOfMemory`; or as the partition refuses the command.
 abbrev pub MayRefuseAt : (ℕ → ℕ) → WitnessedState → ℕ → Command → WorkerState → Refusal → Type 0
 MayRefuseAt owner w part command a e =
     ((e ≡ NoSuchPartition) × (length a.seen_by_part ≤ part))
@@ -156,12 +160,12 @@ MayRefuseAt owner w part command a e =
 abbrev pub replies_to : WorkerState → ℕ
 replies_to a = sum_by (λ (n : ℕ). n) a.counts
 
--- a worker's receipts; none without an audit
+-- a worker's receipts; the empty list without an audit
 abbrev pub receipts_in : WorkerState → List Receipt
 receipts_in a = unwrap_or a.receipts []
 
--- why workers and partitions may not agree: `StrangeReceipt`, with the number of the first partition that differs
--- from a worker, and the number of replies that such a worker received there
+-- why workers and partitions may not agree: `StrangeReceipt`, with the number of the first partition that differs from
+-- a worker (`Differs`), and the number of replies that a worker from which it differs received there
 pub record MayDiffer (owner : ℕ → ℕ) (workers : List WorkerState) (parts : List WitnessedState) (e : Refusal) : Type 0 where
   pub place : ℕ
   pub at : WitnessedState

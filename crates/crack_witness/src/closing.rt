@@ -8,10 +8,13 @@ use crate::witnessed::Witnessed;
 use crate::worker::Worker;
 use crack_row::Refusal;
 
-/// Checks that each partition's history has exactly the entries of each worker for which the worker received
-/// replies. What the worker has seen of that history is then a prefix of it. Takes no memory. O(partitions ×
-/// workers), however many entries there are. Refused with `StrangeReceipt` at the first partition that differs from
-/// a worker: it carries the partition's number, and the number of replies that the first such worker received there.
+/// Checks that each partition's history has exactly the entries of each worker for which the worker received replies.
+/// What the worker has seen of that history is then a prefix of it. Takes no memory. O(partitions × workers), however
+/// many entries there are.
+///
+/// Refused with `StrangeReceipt` at the first partition that differs from a worker: its history has another number of
+/// the worker's entries than the worker received replies, or one doesn't know of the other. The refusal carries the
+/// partition's number, and the number of replies that the first worker that differs received there.
 pub fn compare<J: Naming>(
     workers: &Vec<Worker<J>>,
     parts: &mut Vec<Witnessed<J>>,
@@ -30,8 +33,9 @@ pub fn compare<J: Naming>(
     Ok(())
 }
 
-/// Looks for a worker that received another number of replies from the partition than the partition's history has
-/// entries of it. Returns the number of replies of the first one, or `None` if there is none. O(workers).
+/// Looks for the first worker whose number of replies from the partition isn't the number of the worker's entries in
+/// the partition's history, or that the partition doesn't know, or that doesn't know the partition. Returns the number
+/// of that worker's replies from the partition, or `None` if there is no such worker. O(workers).
 fn first_difference<J: Naming>(workers: &Vec<Worker<J>>, part: &mut Witnessed<J>) -> Option<u64>
     ensures same { part.new ≡ part.old }
     ensures none { IfNone result (All (λ (a : WorkerState). HasSeen J.owner a part.old) workers.now.items) }

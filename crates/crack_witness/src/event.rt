@@ -7,8 +7,9 @@ use crack_row::Entry;
 use logbook::{Gain, Offer, Opening, Plain, Play, Rule, Seen, Word};
 
 /// An event of a book: a partition's entry, or its first event, which has none. `owner` is the partition's number in
-/// the book, and `word` the key of its word. `next` is the key of the cell whose flag the partition's next event
-/// sets; until then the cell shows that this event is the partition's last one. An event exists only in proofs.
+/// the book, and `word` the key of its word. A book also has cells, which aren't an arena's, each with a flag. `next`
+/// is the key of the cell whose flag the partition's next event sets; until then the cell shows that this event is the
+/// partition's last one. An event exists only in proofs.
 pub struct Event {
     pub owner: u64,
     pub next: u64,

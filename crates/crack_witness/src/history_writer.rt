@@ -46,7 +46,7 @@ impl<J: Naming> SeenEvents<J> {
         }
     }
 
-    /// A copy.
+    /// A copy: the same events. O(1), and takes no memory.
     pub fn copy(&self) -> SeenEvents<J>
         ensures { result ≡ self.now }
     {
@@ -107,7 +107,7 @@ impl<J: Naming> Model for HistoryWriter<J> {
 }
 
 impl<J: Naming> HistoryWriter<J> {
-    /// The history writer of a partition without entries.
+    /// The history writer of partition `part`, which has no entries, made of the partition's owner.
     pub(crate) fn new(part: u32, owner: Owner) -> HistoryWriter<J>
         requires { IsOwnerAt J.book J.owner part owner }
         ensures part { result.part ≡ part }
@@ -131,8 +131,9 @@ impl<J: Naming> HistoryWriter<J> {
         self.part
     }
 
-    /// Adds an entry to the book, after all events that the history writer has seen and those of `me`, which the
-    /// asking worker has seen. Both have then seen it. O(1): two steps on the partition's word.
+    /// Adds an entry to the book: a worker's number, its command and the reply. The entry follows all events that the
+    /// history writer has seen and those of `me`, which the worker has seen; afterwards the history writer and the
+    /// worker have both seen it. O(1): two steps on the partition's word.
     pub(crate) fn write(
         &mut self,
         me: &mut SeenEvents<J>,
@@ -174,8 +175,8 @@ impl<J: Naming> HistoryWriter<J> {
         me.seen = token;
     }
 
-    /// States that the partition's entries in `seen_events` are a prefix of its history, as the history writer
-    /// has written it. O(1): a step on the partition's word.
+    /// States that the partition's entries in `seen_events` are a prefix of its history, as the history writer has
+    /// written it. Changes nothing. O(1): a step on the partition's word.
     pub(crate) fn covers(&mut self, seen_events: &SeenEvents<J>)
         ensures same { self.new ≡ self.old }
         ensures begins { IsPrefix (history_of (J.owner self.old.part) seen_events.now) (history_of (J.owner
@@ -189,7 +190,8 @@ impl<J: Naming> HistoryWriter<J> {
     }
 }
 
-/// Makes a pen for one more entry, by one step on the partition's word.
+/// Makes a pen, the right to add one more entry, by one step on the partition's word. `seen`, the events that the
+/// caller has seen, must have one with that word. O(1).
 fn fresh(word: &Head, seen: &Token) -> Pen
     requires { (word.now.tracked ≡ true) × (seen.now.book ≡ word.now.book) × HasWord word.now.key seen.now.log }
     ensures { (result.book ≡ word.now.book) × (result.nib.right ≡ may_write) }

@@ -16,7 +16,7 @@ use std::alloc::{AllocError, Global};
 /// being copied, and its unused part takes no memory.
 const FIRST_ITEMS: usize = 2048;
 
-/// An empty list if there is an audit, else `None`. Takes no memory.
+/// An empty list if there is an audit, otherwise `None`. Takes no memory.
 pub(crate) fn list_for<T: Drop>(alloc: Global, is_audited: bool) -> Option<Vec<T>>
     ensures { listed result ≡ empty_list is_audited }
 {
@@ -27,9 +27,10 @@ pub(crate) fn list_for<T: Drop>(alloc: Global, is_audited: bool) -> Option<Vec<T
     }
 }
 
-/// Answers a command as `Partition::apply` does, and adds the entry to the partition's list and the receipt to the
-/// worker's, if there are such lists. Costs O(1), amortised, beyond `apply`, and two copies of a select's list.
-/// Refused as `apply` is, and with `OutOfMemory` if no memory is found for these; then nothing is added to a list.
+/// Answers a command of a worker at partition `part` as `Partition::apply` does. Adds the entry to `entries`, the
+/// partition's list, and the receipt to `receipts`, the worker's, if there are such lists: with an audit. Costs O(1),
+/// amortised, beyond `apply`; with an audit also two copies of a select's list. Refused as `apply` is, and with
+/// `OutOfMemory` also if no memory is found for the lists or the copies; then nothing is added to a list.
 pub(crate) fn apply_listed(
     partition: &mut Partition,
     entries: &mut Option<Vec<Entry>>,
@@ -89,8 +90,9 @@ pub(crate) fn apply_listed(
     Ok(copies.reply)
 }
 
-/// Makes room for the entry and the receipt of a command, and returns how many commands the partition has accepted
-/// before. Refused as the partition would refuse the command, or with `OutOfMemory` if no memory is found.
+/// Makes room for one more entry and one more receipt, in the lists that there are, and returns how many commands the
+/// partition has accepted so far. Refused if the partition would refuse the command, for the same cause; or with
+/// `OutOfMemory` if no memory is found. No list gets an item.
 fn make_room(
     partition: &Partition,
     entries: &mut Option<Vec<Entry>>,
@@ -125,7 +127,7 @@ pub(crate) fn reserve<T: Drop>(list: &mut Option<Vec<T>>) -> Result<(), AllocErr
     Ok(())
 }
 
-/// Adds an item to a list, if there is a list. It must have room.
+/// Adds an item to a list, which must have room; does nothing if there is no list.
 fn add<T: Drop>(list: &mut Option<Vec<T>>, item: T)
     requires room { HasRoomForOne list.old }
     ensures { listed list.new ≡ and_one (listed list.old) item }

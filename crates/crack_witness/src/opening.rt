@@ -55,8 +55,8 @@ impl Model for Owner {
 }
 
 impl Owner {
-    /// Makes an owner with this word, by one step on the word, which adds the owner's first event. No event before it
-    /// is the owner's.
+    /// Makes an owner with this word, by one step on the word, which adds the owner's first event to the book. `seen`
+    /// has this event afterwards; no event that it had before is the owner's. O(1).
     fn open(word: Head, seen: &mut Token) -> Owner
         requires { (word.tracked ≡ true) × (seen.old.book ≡ word.book) × HasWord word.key seen.old.log }
         ensures book { (result.book ≡ seen.old.book) × (seen.new.book ≡ seen.old.book) }
@@ -126,8 +126,9 @@ impl Opened {
     }
 
     /// Gives the book its name `J`. Returns the events that a worker begins with, and the partitions with their
-    /// history writers, in order. Each partition counts the entries of this many workers, and with an audit
-    /// keeps a list of all its entries. Refused if no memory is found. O(partitions × workers).
+    /// history writers, in order; the partitions must have accepted no command. Each partition counts the entries of
+    /// this many workers, and with an audit keeps a list of all its entries. Refused if no memory is found.
+    /// O(partitions × workers).
     pub fn witness<J: Naming>(
         self,
         alloc: Global,
@@ -161,7 +162,8 @@ impl Opened {
     }
 }
 
-/// Makes the next word of a new book, and an owner with it. `pens` are the rights to make these words, in order.
+/// Makes the next word of a new book, and an owner with it, whose first event `seen` then has. `pens` are the rights
+/// to make the book's words, in order, and lose the first.
 fn next_owner(pens: &mut Pens, seen: &mut Token) -> Owner
     requires { (0 < pens.old.left) × (pens.old.book ≡ seen.old.book) × IsPrefix (row (pens.old.next + pens.old.left))
         seen.old.log }
@@ -178,8 +180,9 @@ fn next_owner(pens: &mut Pens, seen: &mut Token) -> Owner
     Owner::open(word, seen)
 }
 
-/// Joins each partition with the history writer of its owner, in order, and leaves both lists empty. Refused if
-/// no memory is found.
+/// Joins each partition with the history writer of its owner, the one at the same index, and returns them in order.
+/// Each partition counts the entries of this many workers, and with an audit keeps a list of its entries. Both lists
+/// are emptied. Refused if no memory is found; the lists may then have lost items.
 fn witness_each<J: Naming>(
     alloc: Global,
     owners: &mut Vec<Owner>,

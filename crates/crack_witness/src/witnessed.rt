@@ -34,6 +34,7 @@ pub struct Witnessed<J: Naming> {
 
 // Written out so that the crates above call this function and prove nothing about the fields.
 impl<J: Naming> Drop for Witnessed<J> {
+    /// Drops each field.
     fn drop(self) {
         let Witnessed {
             partition,
@@ -76,8 +77,9 @@ impl<J: Naming> Model for Witnessed<J> {
 }
 
 impl<J: Naming> Witnessed<J> {
-    /// A partition that has answered nothing, with its history writer and a count of entries for each worker;
-    /// with an audit also an empty list of its entries. Refused if no memory is found.
+    /// The partition with number `part`, which has accepted no command, with its history writer, made of its owner,
+    /// and a count of entries for each worker; with an audit also an empty list of its entries. Refused if no memory
+    /// is found.
     pub(crate) fn new(
         alloc: Global,
         partition: Partition,
@@ -105,28 +107,28 @@ impl<J: Naming> Witnessed<J> {
         }
     }
 
-    /// The partition's number.
+    /// The partition's number. O(1).
     pub fn part(&self) -> u32
         ensures { result ≡ self.now.part }
     {
         self.history_writer.part()
     }
 
-    /// The partition itself, to be read.
+    /// The partition itself, to be read. O(1).
     pub fn partition(&self) -> &Partition
         ensures { result.now ≡ self.now.held }
     {
         &self.partition
     }
 
-    /// The number of workers whose entries are counted.
+    /// The number of workers whose entries are counted. O(1).
     pub fn workers(&self) -> usize
         ensures { result ≡ self.now.workers }
     {
         self.answered.len()
     }
 
-    /// The list of the partition's entries since it was opened; `None` without an audit.
+    /// The list of the partition's entries since it was opened; `None` without an audit. O(1).
     pub fn entries(&self) -> Option<&[Entry]>
         ensures { MatchOption result (self.now.entries ≡ None) (λ list. self.now.entries ≡ Some list.now) }
     {
@@ -136,10 +138,11 @@ impl<J: Naming> Witnessed<J> {
         }
     }
 
-    /// States the invariants of every witnessed partition, and does nothing: its history is legal, its plain rows
-    /// are those after the history, it has accepted as many commands as the history has entries, each entry is by
-    /// one of its workers, the list of an audit is the history, and the past obeys the keys and the limits. The live
-    /// rows of the store are the plain rows after the past, which is empty if the history is.
+    /// States the invariants of every witnessed partition, and does nothing: each reply in its history is that of the
+    /// plain rows after the entries before it, its plain rows are those after the history, it has accepted as many
+    /// commands as the history has entries, each entry is by a worker that it counts, the list of an audit is the
+    /// history, and the past obeys the keys and the limits. The live rows of the store are the plain rows after the
+    /// past, which is empty if the history is.
     pub fn recall_invariant(&self)
         ensures whole { IsWhole J.owner self.now }
         ensures sound { IsSound self.now.held }
@@ -152,7 +155,7 @@ impl<J: Naming> Witnessed<J> {
         self.partition.recall_invariant();
     }
 
-    /// How many of a worker's entries the history has. `None` if this isn't a worker of the table. O(1).
+    /// How many of a worker's entries the history has; `None` if the table has no worker with this number. O(1).
     pub fn answered(&self, worker: u32) -> Option<u64>
         ensures some { IfSome result (λ n. (worker < self.now.workers) ×
             (n ≡ length (calls_by worker (history_of (J.owner self.now.part) self.now.log)))) }
@@ -162,12 +165,14 @@ impl<J: Naming> Witnessed<J> {
     }
 
     /// Answers a command of a worker that has received `count` replies from this partition so far, and adds the entry
-    /// to the history. `me` are the events that the worker has seen, which afterwards end with this entry.
-    /// Costs O(1) beyond `Partition::apply` and takes no memory; with an audit it adds the entry to the partition's
-    /// list, and the receipt to the worker's. Refused with `StrangeReceipt`, which carries the partition's number and
-    /// `count`, if the history has another number of the worker's entries, or this isn't a worker of the table: then
-    /// nothing has changed. Otherwise refused as `Partition::apply` is, with `OutOfMemory` also for an audit's lists:
-    /// then nothing is written.
+    /// to the history. `me` are the events that the worker has seen; afterwards they end with this entry. `receipts`
+    /// is the worker's list of receipts, if there is an audit. Costs O(1) beyond `Partition::apply` and takes no
+    /// memory; with an audit it adds the entry to the partition's list, and the receipt to the worker's.
+    ///
+    /// Refused with `StrangeReceipt`, which carries the partition's number and `count`, if the history has another
+    /// number of the worker's entries, or the table has no worker with this number: then nothing has changed.
+    /// Otherwise refused as `Partition::apply` is, and with `OutOfMemory` also if no memory is found for an audit's
+    /// lists: then no entry and no receipt is added.
     pub fn ask(
         &mut self,
         me: &mut SeenEvents<J>,
@@ -251,8 +256,9 @@ impl<J: Naming> Witnessed<J> {
         Ok(reply)
     }
 
-    /// Makes a checkpoint as `Partition::checkpoint` does, and returns how many commands were answered since the
-    /// last one. No row changes. The history stays whole, but all of its entries now belong to the base.
+    /// Makes a checkpoint as `Partition::checkpoint` does, at the same cost, and returns how many commands were
+    /// answered since the last one. No row changes. The history keeps all its entries, but all of them now belong to
+    /// the base. Can't fail.
     pub fn checkpoint(&mut self) -> u64
         ensures since { result ≡ self.old.held.since }
         ensures checkpointed { self.new.held ≡ checkpointed_part self.old.held }
@@ -274,7 +280,7 @@ impl<J: Naming> Witnessed<J> {
     }
 }
 
-/// The count at the index `place`; `None` if there is no such index.
+/// The count at the index `place`; `None` if there is no such index. O(1).
 pub(crate) fn count_at(counts: &[u64], place: u32) -> Option<u64>
     ensures some { IfSome result (λ n. (place < length counts.now) × (n ≡ slice_index_or counts.now place 0)) }
     ensures none { place < length counts.now → result ≢ None }

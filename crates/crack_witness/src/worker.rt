@@ -37,6 +37,7 @@ pub struct Worker<J: Naming> {
 
 // Written out so that the crates above call this function and prove nothing about the fields.
 impl<J: Naming> Drop for Worker<J> {
+    /// Drops each field; the number needs nothing.
     fn drop(self) {
         let Worker {
             number: _,
@@ -72,8 +73,8 @@ impl<J: Naming> Model for Worker<J> {
 }
 
 impl<J: Naming> Worker<J> {
-    /// A worker that has asked nothing yet, with this number, for this many partitions. It keeps receipts if there
-    /// is an audit. Refused if no memory is found.
+    /// A worker that has asked nothing yet, with this number, for `parts` partitions. It has seen these events, and
+    /// keeps receipts if there is an audit. Refused if no memory is found. O(partitions).
     pub fn new(
         alloc: Global,
         number: u32,
@@ -104,7 +105,7 @@ impl<J: Naming> Worker<J> {
         })
     }
 
-    /// The worker's number.
+    /// The worker's number. O(1).
     pub fn number(&self) -> u32
         ensures { result ≡ self.now.worker }
     {
@@ -120,7 +121,7 @@ impl<J: Naming> Worker<J> {
         sum_of(self.counts.as_slice())
     }
 
-    /// The worker's receipts, in the order in which it asked; empty without an audit.
+    /// The worker's receipts, in the order in which it asked; empty without an audit. O(1).
     pub fn receipts(&self) -> &[Receipt]
         ensures { result.now ≡ receipts_in self.now }
     {
@@ -137,18 +138,22 @@ impl<J: Naming> Worker<J> {
         reserve(&mut self.receipts)
     }
 
-    /// The events of the table's book that the worker has seen.
+    /// The events of the table's book that the worker has seen. O(1).
     pub fn seen_events(&self) -> &SeenEvents<J>
         ensures { result.now ≡ self.now.seen }
     {
         &self.seen_events
     }
 
-    /// Asks a partition, which must have number `part`. Costs O(1) beyond `Partition::apply` and takes no memory;
-    /// with an audit it adds the entry to the partition's list, and the receipt to the worker's. Refused with
-    /// `NoSuchPartition` if the worker knows of no such partition; with `StrangeReceipt`, which carries `part` and
-    /// the number of the worker's replies there, if the partition has another number, or its history has another
-    /// number of the worker's entries; then as `Partition::apply` is. After a refusal nothing was seen or written.
+    /// Has a partition, whose number must be `part`, execute a command, and returns the reply. The entry is added to
+    /// the partition's history, and the worker has then seen it. Costs O(1) beyond `Partition::apply` and takes no
+    /// memory; with an audit it adds the entry to the partition's list, and the receipt to the worker's.
+    ///
+    /// Refused with `NoSuchPartition` if the worker knows of no partition with this number. Refused with
+    /// `StrangeReceipt`, which carries `part` and the number of the worker's replies there, if the partition has
+    /// another number, or its history has another number of the worker's entries. Otherwise refused as
+    /// `Partition::apply` is, and with `OutOfMemory` also if no memory is found for an audit's lists. After a refusal
+    /// the worker has seen no more events, and no entry and no receipt is added.
     pub fn ask(
         &mut self,
         witnessed: &mut Witnessed<J>,
@@ -238,7 +243,8 @@ impl<J: Naming> Worker<J> {
         Ok(reply)
     }
 
-    /// Whether a partition's history has exactly the entries of this worker for which it received replies. States
+    /// Whether a partition's history has exactly the entries of this worker for which it received replies; false if
+    /// the partition doesn't count this worker's entries, or the worker knows of no partition with this number. States
     /// that what the worker has seen of that history is a prefix of it. O(1).
     pub fn agrees(&self, witnessed: &mut Witnessed<J>) -> bool
         ensures same { witnessed.new ≡ witnessed.old }
@@ -259,8 +265,9 @@ impl<J: Naming> Worker<J> {
         count_at(self.counts.as_slice(), part).unwrap_or(0)
     }
 
-    /// Whether the worker received as many replies from a partition as its history has entries of the worker. What
-    /// the worker has seen of that history must be a prefix of it. O(1).
+    /// Whether the worker received as many replies from a partition as the partition's history has entries of the
+    /// worker; false if one doesn't know of the other. What the worker has seen of that history must be a prefix of
+    /// it. O(1).
     fn counts_agree(&self, witnessed: &Witnessed<J>) -> bool
         requires covered { IsPrefix (history_of (J.owner witnessed.now.part) self.now.seen)
             (history_of (J.owner witnessed.now.part) witnessed.now.log) }

@@ -7,7 +7,8 @@ use Rattle.crack_witness.specs.declared.receipt.Receipt.{Receipt}
 use Rattle.crack_session.specs.Calls.{Call, Asked, Checkpointed, Looked, Measured, Surveyed}
 use Rattle.crack_table.specs.Tables.{TableState, AnswersAt, LooksAt, MeasuresAt}
 
--- what a call does to a worker, if `Asks` says what a command does: all other calls leave the worker unchanged
+-- what a call does to a worker of this table: a command does what `Asks` says. Any other call leaves the worker
+-- unchanged: a request for the traffic returns `None`, and the others have an outcome that the table may give.
 abbrev pub table_leads : {W : Type 0} → TableState → (ℕ → Command → Result Reply Refusal → W → W → Type 0) → W → Call → W → Type 0
 table_leads table Asks old (Asked part command policy outcome) new = Asks part command outcome old new
 table_leads table Asks old (Checkpointed part outcome) new = AnswersAt table part (λ e. ⊥) outcome × (new ≡ old)
@@ -15,7 +16,7 @@ table_leads table Asks old (Looked part outcome) new = LooksAt table part outcom
 table_leads table Asks old (Measured part outcome) new = MeasuresAt table part outcome × (new ≡ old)
 table_leads table Asks old (Surveyed traffic) new = (traffic ≡ None) × (new ≡ old)
 
--- the commands that calls answered, each with its partition and its reply
+-- the commands among the calls that were answered, in order, each with its partition and its reply
 abbrev pub answers_in : List Call → List (ℕ × Command × Reply)
 answers_in [] = []
 answers_in (Asked part command policy (Ok reply) ∷ calls) = (part, command, reply) ∷ answers_in calls

@@ -33,7 +33,8 @@ pub struct WorkerDesk<'a, R: Wait, G: Gate, J: Naming> {
 }
 
 impl<'a, R: Wait, G: Gate, J: Naming> WorkerDesk<'a, R, G, J> {
-    /// A desk at which this worker asks this table. Takes no lock and no memory.
+    /// A desk at which this worker asks this table. The gate decides when a command is executed, and `rt` lets the
+    /// desk wait for locks. Takes no lock and no memory. O(1).
     pub fn new(
         rt: &'a R,
         table: &'a Table<J>,
@@ -52,8 +53,8 @@ impl<'a, R: Wait, G: Gate, J: Naming> WorkerDesk<'a, R, G, J> {
         }
     }
 
-    /// The worker, with the events that it has seen, the number of its replies and, with an audit, its receipts.
-    /// Takes no lock and no memory.
+    /// The desk's worker, with the events that it has seen, the number of its replies and, with an audit, its
+    /// receipts. Takes no lock and no memory. O(1).
     pub fn into_worker(self) -> Worker<J>
         ensures { result ≡ self.entry.worker }
     {
@@ -80,7 +81,7 @@ impl<'a, R: Wait, G: Gate, J: Naming> Desk for WorkerDesk<'a, R, G, J> {
     ghost leads = { λ d call e. (e.table.now ≡ d.table.now) × (e.gate.now ≡ d.gate.now) × table_leads d.table.now
         (λ part. AsksTable J.owner d.table.now (G.may_refuse d.gate.now part) part) d.worker call e.worker };
 
-    /// Asks partition `part` as `Table::ask` does.
+    /// Asks partition `part` as `Table::ask` does, at the same cost and with the same refusals.
     fn ask(&mut self, part: u32, command: Command, policy: Policy) -> Result<Reply, Refusal>
         // The worker asks its table. The reply ends the partition's one history, as far as the worker now sees it.
         ensures asks { AsksTable J.owner self.old.table.now (G.may_refuse self.old.gate.now part) part command
@@ -92,7 +93,8 @@ impl<'a, R: Wait, G: Gate, J: Naming> Desk for WorkerDesk<'a, R, G, J> {
         self.table.ask(self.rt, self.gate, &mut self.worker, part, command, policy)
     }
 
-    /// Makes a checkpoint as `Table::checkpoint` does.
+    /// Makes a checkpoint of partition `part` as `Table::checkpoint` does, at the same cost and with the same
+    /// refusals.
     fn checkpoint(&mut self, part: u32) -> Result<u64, Refusal>
         // Makes a checkpoint of a partition for all workers. Its history stays whole.
         ensures checkpoints { AnswersAt self.old.table.now part (λ e. ⊥) result }
@@ -102,21 +104,22 @@ impl<'a, R: Wait, G: Gate, J: Naming> Desk for WorkerDesk<'a, R, G, J> {
         self.table.checkpoint(self.rt, part)
     }
 
-    /// The layout of a partition, as `Table::layout` reads it.
+    /// The layout of partition `part`, as `Table::layout` reads it, at the same cost and with the same refusals.
     fn layout(&self, part: u32) -> Result<Layout, Refusal>
         ensures looks { LooksAt self.now.table.now part result }
     {
         self.table.layout(self.rt, part)
     }
 
-    /// The statistics of a partition, as `Table::statistics` reads them.
+    /// The statistics of partition `part`, as `Table::statistics` reads them, at the same cost and with the same
+    /// refusals.
     fn statistics(&self, part: u32) -> Result<Statistics, Refusal>
         ensures measures { MeasuresAt self.now.table.now part result }
     {
         self.table.statistics(self.rt, part)
     }
 
-    /// `None`: this desk by itself belongs to no server.
+    /// The traffic of the desk's server: `None`, because this desk belongs to no server. O(1).
     fn service(&self) -> Option<Traffic>
         ensures none { result ≡ None }
     {

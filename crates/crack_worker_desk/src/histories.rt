@@ -7,9 +7,11 @@ use crack_table::Gate;
 use crack_witness::Naming;
 use std::sync::Wait;
 
-/// States what holds if the desk's worker is gathered later, whatever comes in between: the answers of each session
-/// over the desk consist of replies in the one history of each partition that has a part of the statement. Each is
-/// the reply of the plain rows there, and they are at rising places. Does nothing.
+/// States what holds of the answers of each session over the desk, if its worker is gathered later, whatever is asked
+/// between the session and the gathering. The answer to a statement consists of replies in the histories of the
+/// partitions that have a part of the statement. Each is the reply of the plain rows at its position in the history.
+/// Replies of one partition are there in the order of the statements, with no other entry of the worker between them.
+/// Does nothing.
 pub fn lines_stand_in_histories<'a, R: Wait, G: Gate, J: Naming>(desk: &WorkerDesk<'a, R, G, J>)
     ensures { AreLinesOfHistories ⟦<WorkerDesk<'a, R, G, J> as Desk>⟧.leads (λ d. d.table.now) (λ d. d.worker)
         J.owner desk.now }

@@ -25,7 +25,7 @@ use std::thread::Threads;
 use std::time::{Clock, Duration};
 use std::{env, io, thread};
 
-/// The request of the command line, and whether errors are explained in words.
+/// The request of the command line, or why it has none; and whether errors are explained in words.
 fn request(rt: &HostRuntime) -> (Result<Request, ArgumentsError>, bool) {
     match words(rt) {
         Ok(words) => {
@@ -39,14 +39,15 @@ fn request(rt: &HostRuntime) -> (Result<Request, ArgumentsError>, bool) {
     }
 }
 
-/// The words of the command line, starting with the program's name. A word that isn't text is an error.
+/// The words of the command line, starting with the program's name. An error if a word isn't text, or if no memory is
+/// found.
 fn words(rt: &HostRuntime) -> io::Result<Vec<String>> {
     let words: Vec<String> = env::args(rt)?.collect(rt.alloc())?;
     Ok(words)
 }
 
-/// Answers the statements of standard input over a new table, on standard output. Refused if the table can't be
-/// opened or the session is cut off.
+/// Answers the statements of standard input over a new table, on standard output. Refused as `Core::open_with` is, and
+/// if the session is cut off, with the cause.
 fn script(rt: &HostRuntime, opening: &TableOptions) -> Result<(), Refusal> {
     let mut core = Core::open_with(rt.alloc(), opening.splits.as_slice(), opening.limits)?;
     let served = serve_input(rt, &mut core, opening.policy);
@@ -54,7 +55,8 @@ fn script(rt: &HostRuntime, opening: &TableOptions) -> Result<(), Refusal> {
     served
 }
 
-/// Answers the statements of standard input over a core, on standard output. Refused if the session is cut off.
+/// Answers the statements of standard input over a core, on standard output; `policy` is the one with which the
+/// session begins. Refused if the session is cut off, with the cause.
 fn serve_input(rt: &HostRuntime, core: &mut Core, policy: Policy) -> Result<(), Refusal> {
     let mut reader = Watched::new(rt.stdin());
     let mut writer = Watched::new(rt.stdout());
@@ -64,8 +66,8 @@ fn serve_input(rt: &HostRuntime, core: &mut Core, policy: Policy) -> Result<(), 
     }
 }
 
-/// Loads the CSV records of standard input into a new table, and writes its rows to standard output. Refused if the
-/// table can't be opened, and as the load or the export is.
+/// Loads the CSV records of standard input into a new table, and then writes the table's rows to standard output as
+/// CSV. Refused as `Core::open_with` and `copy_csv` are.
 fn csv(rt: &HostRuntime, opening: &TableOptions) -> Result<(), Refusal> {
     let mut core = Core::open_with(rt.alloc(), opening.splits.as_slice(), opening.limits)?;
     let copied = copy_csv(rt, &mut core, opening.policy);
@@ -73,8 +75,8 @@ fn csv(rt: &HostRuntime, opening: &TableOptions) -> Result<(), Refusal> {
     copied
 }
 
-/// Loads standard input into a core, and writes the core's rows to standard output. Refused as the load or the
-/// export is.
+/// Loads the CSV records of standard input into a core, and then writes the core's rows to standard output as CSV,
+/// both under this policy. Refused as `load_csv` and `export_csv` are.
 fn copy_csv(rt: &HostRuntime, core: &mut Core, policy: Policy) -> Result<(), Refusal> {
     let mut reader = Watched::new(rt.stdin());
     if let Err(fault) = load_csv(core, policy, &mut reader) {
@@ -87,8 +89,8 @@ fn copy_csv(rt: &HostRuntime, core: &mut Core, policy: Policy) -> Result<(), Ref
     }
 }
 
-/// Lets workers serve the lines of standard input. They keep receipts if an audit is requested. Refused as
-/// `run_batch` is.
+/// Lets workers answer the lines of standard input, as `run_batch` does. They keep receipts if an audit is requested.
+/// Refused as `run_batch` is, and with `OutOfMemory` if no memory is found for the output's buffer.
 fn batch<H: Threads + Wait + Sync>(
     handle: &H,
     rt: &HostRuntime,
@@ -163,8 +165,8 @@ fn serve_named<
     }
 }
 
-/// The number of workers of a server: by default the number of processors, at most `MOST_WORKERS`, or 1 if that
-/// isn't known.
+/// The number of workers of a server. By default it is the number of processors, at most `MOST_WORKERS`, or 1 if the
+/// number of processors isn't known.
 fn workers_of<H: Threads>(handle: &H, service: &ServeOptions) -> u64 {
     match service.workers {
         Some(workers) => workers,
@@ -175,7 +177,8 @@ fn workers_of<H: Threads>(handle: &H, service: &ServeOptions) -> u64 {
     }
 }
 
-/// The options of a server.
+/// The server's options in the form that `run_service` takes. Notices of checkpoints are requested if upkeep is
+/// automatic and the server isn't quiet.
 fn terms_of(service: &ServeOptions) -> Terms {
     let opening = &service.opening;
     Terms {
@@ -191,7 +194,7 @@ fn terms_of(service: &ServeOptions) -> Terms {
     }
 }
 
-/// Whether partitions make checkpoints by themselves.
+/// Whether upkeep is automatic: partitions make checkpoints by themselves.
 fn has_upkeep(opening: &TableOptions) -> bool {
     matches!(opening.limits.upkeep, Upkeep::Automatic)
 }
@@ -214,6 +217,8 @@ fn console_of<'a>(rt: &'a HostRuntime, service: &ServeOptions) -> Console<'a> {
 }
 
 impl<'a> Host for Console<'a> {
+    /// Writes a line to standard error: the present date and time, the word `crackd`, and the notice. If the server is
+    /// quiet, writes nothing. A failure to write is ignored.
     fn note(&self, notice: Notice) {
         if !self.is_quiet {
             let time = self.time();
@@ -221,10 +226,12 @@ impl<'a> Host for Console<'a> {
         }
     }
 
+    /// Sleeps for 10 milliseconds.
     fn pause(&self) {
         thread::sleep(self.rt, Duration::from_millis(10));
     }
 
+    /// The time of the monotonic clock in milliseconds, or 0 if it can't be read.
     fn millis(&self) -> u64 {
         match self.rt.monotonic() {
             Ok(time) => u64::try_from(time.as_millis()).unwrap_or(u64::MAX),
@@ -232,6 +239,7 @@ impl<'a> Host for Console<'a> {
         }
     }
 
+    /// The time of the monotonic clock in microseconds, or 0 if it can't be read.
     fn micros(&self) -> u64 {
         match self.rt.monotonic() {
             Ok(time) => u64::try_from(time.as_micros()).unwrap_or(u64::MAX),
@@ -266,7 +274,8 @@ fn listen<H: Net<Listener = TcpListener, Stream = TcpStream>, W: Write>(
     Ok(listener)
 }
 
-/// Writes the port on which the server listens. Refused with `WriteFault` if the writer fails.
+/// Writes the line `listening PORT`, where PORT is the port on which the server listens, and flushes the writer.
+/// Refused with `WriteFault` if the writer fails.
 fn announce<W: Write>(port: u16, writer: &mut W) -> Result<(), Refusal> {
     let line = writeln!(writer, "listening {port}");
     if line.is_err() || writer.flush().is_err() {
@@ -275,7 +284,8 @@ fn announce<W: Write>(port: u16, writer: &mut W) -> Result<(), Refusal> {
     Ok(())
 }
 
-/// Runs the request. `handle` provides threads, waiting and sockets.
+/// Runs the request. `handle` provides threads, waiting and sockets. Refused as the request's own function is, and
+/// with `WriteFault` if the text of a help can't be written.
 fn run_request<H: Threads + Wait + Net<Listener = TcpListener, Stream = TcpStream> + Sync>(
     handle: &H,
     rt: &HostRuntime,
@@ -290,7 +300,7 @@ fn run_request<H: Threads + Wait + Net<Listener = TcpListener, Stream = TcpStrea
     }
 }
 
-/// Writes a refusal to standard error, followed by its cause if `in_words`. Returns the exit status of a failure.
+/// Writes a refusal to standard error, followed by its cause if `in_words`. Returns the exit status of a failure, 1.
 fn complain(rt: &HostRuntime, refusal: Refusal, in_words: bool) -> ExitCode {
     let _ = if in_words {
         eprintln!(rt; "crackd: {refusal}: {}", refusal.cause())

@@ -26,21 +26,21 @@ impl Model for TableHandle {
 impl TableHandle {
     ghost use Rattle.crackd_c.specs.Lends.{core_follows};
 
-    /// Whether the handle holds a table.
+    /// Whether the handle holds a table. O(1).
     pub fn is_open(&mut self) -> bool
         ensures { (result ≡ self.old.is_open) × (self.new ≡ self.old) }
     {
         self.is_open
     }
 
-    /// A handle that holds this table.
+    /// A handle that holds this table. O(1).
     pub fn of(core: Box<Core>) -> TableHandle
         ensures { (result.is_open ≡ true) × (result.core ≡ core.value) }
     {
         TableHandle::of_parts(BoxParts::of(core))
     }
 
-    /// Takes the table out of the handle, which must hold one and then holds none.
+    /// Takes the table out of the handle, which must hold one. Then the handle holds none. O(1).
     pub fn take(&mut self, alloc: Global) -> Box<Core>
         requires { self.old.is_open ≡ true }
         ensures value { result.value ≡ self.old.core }
@@ -60,7 +60,7 @@ impl TableHandle {
         }
     }
 
-    /// A handle that holds the table of a taken-apart box.
+    /// A handle that holds the table of a box, given by the parts of the box.
     fn of_parts(parts: BoxParts<Core, Global>) -> TableHandle
         ensures { (result.is_open ≡ true) × (result.core ≡ parts.value) }
     {
@@ -71,7 +71,7 @@ impl TableHandle {
         }
     }
 
-    /// The box of the handle's table, taken apart. The handle must hold a table.
+    /// The parts of the box that has the handle's table. The handle must hold a table.
     fn into_parts(self, alloc: Global) -> BoxParts<Core, Global>
         requires { self.is_open ≡ true }
         ensures { result.value ≡ self.core }
@@ -83,7 +83,7 @@ impl TableHandle {
         }
     }
 
-    /// Borrows the table of the handle, which must hold one.
+    /// Borrows the table of the handle, which must hold one. O(1).
     pub fn core(&mut self) -> &mut Core
         requires { self.old.is_open ≡ true }
         ensures* writes_back { sem 𝓛 (core_follows self.entry result) }

@@ -1,7 +1,9 @@
-//! The C interface of a table with one thread: one call at a time on a handle. Each call returns a status:
-//! `ANSWERED`, the number of its refusal, or a number above 100 (see `status`) if the call wasn't made. What it
-//! writes through references is written only if the status is `ANSWERED`, except that a call with lists has also
-//! written the results before a refusal, and how many these are.
+//! The C interface of a table with one thread: one call at a time on a handle. Each call returns a status: `ANSWERED`,
+//! the number of its refusal, or, if the call wasn't made, a number above 100 (see `status`). These are `CLOSED` if
+//! the handle holds no table, `LENGTHS_DIFFER` if a call's lists differ in length, and `NO_SUCH_POLICY` if a number is
+//! no policy's. What a call writes through references is written only if the status is `ANSWERED`. A call whose name
+//! ends in `_many` stops at the first refusal; it also writes the results before a refusal, and sets `done` to how
+//! many these are.
 #![tactic(auto)]
 
 ghost use Rattle.std.specs.Prelude.{◌≡◌, true, false, MatchOption, length, [], ◌∷◌};
@@ -27,9 +29,10 @@ use status::{
 };
 use std::alloc::Global;
 
-/// Opens a table with these splits, and with these limits for each partition, in a handle that holds none. The
-/// partitions make the checkpoints that are due, and free the cells of deleted rows once no cell is free. Refused
-/// as `opening::open` is.
+/// Opens a table with these splits, and with these limits for each partition, in the handle. A partition makes a
+/// checkpoint if a command finds its history full, and frees the cells of deleted rows if one finds no free cell.
+/// Returns `ALREADY_OPEN` if the handle already holds a table. Refused as `opening::open` is. The handle is unchanged
+/// unless the call is answered. O(splits).
 #[unsafe(no_mangle)]
 pub extern "C" fn crackd_open(
     alloc: Global,
@@ -61,7 +64,8 @@ pub extern "C" fn crackd_open(
     }
 }
 
-/// Frees the table of a handle, which then holds none.
+/// Frees the table of the handle, which then holds none. Returns `CLOSED` if it held none. Costs what freeing the
+/// table's memory does.
 #[unsafe(no_mangle)]
 pub extern "C" fn crackd_close(alloc: Global, handle: &mut TableHandle) -> u32
     ensures closed { handle.old.is_open ≡ false → (result ≡ CLOSED) × (handle.new ≡ handle.old) }
@@ -74,7 +78,7 @@ pub extern "C" fn crackd_close(alloc: Global, handle: &mut TableHandle) -> u32
     ANSWERED
 }
 
-/// Inserts a row, and writes its row number: partition and serial.
+/// Inserts a row, and writes its row number to `part` and `serial`. Refused as `Core::insert` is, at the same cost.
 #[unsafe(no_mangle)]
 pub extern "C" fn crackd_insert(
     handle: &mut TableHandle,
@@ -103,7 +107,8 @@ pub extern "C" fn crackd_insert(
     }
 }
 
-/// Deletes a row, and writes whether it existed and, if so, its key and payload.
+/// Deletes the row with this partition and serial. Writes 1 to `gone` if the row existed, and also its key and
+/// payload; else writes 0 to `gone`, and neither. Refused as `Core::delete` is, at the same cost.
 #[unsafe(no_mangle)]
 pub extern "C" fn crackd_delete(
     handle: &mut TableHandle,
@@ -140,7 +145,8 @@ pub extern "C" fn crackd_delete(
     }
 }
 
-/// Replaces the key and the payload of a row, and writes whether the row exists.
+/// Replaces the key and the payload of the row with this partition and serial, and writes 1 to `found` if the row
+/// exists, else 0. Refused as `Core::update` is, at the same cost.
 #[unsafe(no_mangle)]
 pub extern "C" fn crackd_update(
     handle: &mut TableHandle,
@@ -173,7 +179,8 @@ pub extern "C" fn crackd_update(
     }
 }
 
-/// Counts the rows whose keys are `first` to `last`, both included, by the policy with this number (`policy_of`).
+/// Counts the rows whose keys are `first` to `last`, both included, by the policy with this number (`policy_of`), and
+/// writes the result to `count`. Refused as `Core::count_keys` is, at the same cost.
 #[unsafe(no_mangle)]
 pub extern "C" fn crackd_count(
     handle: &mut TableHandle,
@@ -200,8 +207,9 @@ pub extern "C" fn crackd_count(
     }
 }
 
-/// Sums the payloads of the rows whose keys are `first` to `last`, both included. Writes the low 64 bits of the
-/// sum, and the bits above them.
+/// Sums the payloads of the rows whose keys are `first` to `last`, both included, by the policy with this number.
+/// Writes the low 64 bits of the sum to `low`, and the bits above them to `high`. Refused as `Core::sum_keys` is, at
+/// the same cost.
 #[unsafe(no_mangle)]
 pub extern "C" fn crackd_sum(
     handle: &mut TableHandle,
@@ -232,8 +240,9 @@ pub extern "C" fn crackd_sum(
     }
 }
 
-/// Lists the rows whose keys are `first` to `last`, both included, by partition and then by rising serial, as far as
-/// the four lists have room, and writes how many rows the range has. The lists must have the same length.
+/// Lists the rows whose keys are `first` to `last`, both included, by the policy with this number: by partition and
+/// then by rising serial, as far as the four lists have room. Writes to `found` how many rows the range has. Refused
+/// as `Core::select_keys` is, at the same cost.
 #[unsafe(no_mangle)]
 pub extern "C" fn crackd_select(
     handle: &mut TableHandle,
@@ -274,8 +283,8 @@ pub extern "C" fn crackd_select(
     }
 }
 
-/// Writes the layout of a partition: its totals, and the least key and the size of each piece as far as the two
-/// lists have room. The lists must have the same length.
+/// Writes the layout of the partition with this number: its totals to `totals`, and the least key and the size of each
+/// piece to `lows` and `sizes`, as far as these have room. Refused as `Core::layout` is, at the same cost.
 #[unsafe(no_mangle)]
 pub extern "C" fn crackd_layout(
     handle: &mut TableHandle,
@@ -303,8 +312,8 @@ pub extern "C" fn crackd_layout(
     }
 }
 
-/// Makes a checkpoint of a partition, and writes how many commands the partition had accepted since its previous
-/// one.
+/// Makes a checkpoint of the partition with this number, and writes to `folded` how many commands the partition had
+/// accepted since its previous one. Refused as `Core::checkpoint` is, at the same cost.
 #[unsafe(no_mangle)]
 pub extern "C" fn crackd_checkpoint(handle: &mut TableHandle, part: u32, folded: &mut u64) -> u32
     ensures checkpoints { OnTable handle.old handle.new result (folded.new ≡ folded.old) (CheckpointsOne part
@@ -322,7 +331,7 @@ pub extern "C" fn crackd_checkpoint(handle: &mut TableHandle, part: u32, folded:
     }
 }
 
-/// Writes how many commands the partitions have accepted since they were opened.
+/// Writes to `accepted` how many commands the partitions have accepted since they were opened. O(partitions).
 #[unsafe(no_mangle)]
 pub extern "C" fn crackd_accepted(handle: &mut TableHandle, accepted: &mut u64) -> u32
     ensures accepted { OnTable handle.old handle.new result (accepted.new ≡ accepted.old) (λ old new status unwritten.
@@ -335,8 +344,8 @@ pub extern "C" fn crackd_accepted(handle: &mut TableHandle, accepted: &mut u64) 
     ANSWERED
 }
 
-/// Inserts a row for each key and payload, and writes the row numbers. As in all calls with lists, these must have
-/// the same length; the call stops at the first refusal, and `done` gets the number of rows or ranges before it.
+/// Inserts a row for each key and payload, in order, and writes each row's number to `parts` and `serials`. Refused as
+/// `Core::insert_many` is, at the same cost.
 #[unsafe(no_mangle)]
 pub extern "C" fn crackd_insert_many(
     handle: &mut TableHandle,
@@ -362,7 +371,8 @@ pub extern "C" fn crackd_insert_many(
     close_list(progress, done)
 }
 
-/// Deletes rows, and writes for each whether it existed.
+/// Deletes the rows with these partitions and serials, in order, and writes to `gone` 1 for each row that existed and
+/// 0 for each that didn't. Refused as `Core::delete_many` is, at the same cost.
 #[unsafe(no_mangle)]
 pub extern "C" fn crackd_delete_many(
     handle: &mut TableHandle,
@@ -386,7 +396,8 @@ pub extern "C" fn crackd_delete_many(
     close_list(progress, done)
 }
 
-/// Replaces the keys and the payloads of rows, and writes for each whether the row exists.
+/// Replaces the keys and the payloads of the rows with these partitions and serials, in order, and writes to `found` 1
+/// for each row that exists and 0 for each that doesn't. Refused as `Core::update_many` is, at the same cost.
 #[unsafe(no_mangle)]
 pub extern "C" fn crackd_update_many(
     handle: &mut TableHandle,
@@ -418,7 +429,8 @@ pub extern "C" fn crackd_update_many(
     close_list(progress, done)
 }
 
-/// Counts the rows of each range, given by its first and last key, both included.
+/// Counts the rows of each range, given by its first and last key, both included, by the policy with this number, and
+/// writes the results to `counts`. Refused as `Core::count_many` is, at the same cost.
 #[unsafe(no_mangle)]
 pub extern "C" fn crackd_count_many(
     handle: &mut TableHandle,
@@ -446,8 +458,9 @@ pub extern "C" fn crackd_count_many(
     close_list(progress, done)
 }
 
-/// Sums the payloads of each range, given by its first and last key, both included. Writes the low 64 bits of each
-/// sum, and the bits above them.
+/// Sums the payloads of each range, given by its first and last key, both included, by the policy with this number.
+/// Writes the low 64 bits of each sum to `lows`, and the bits above them to `highs`. Refused as `Core::sum_many` is,
+/// at the same cost.
 #[unsafe(no_mangle)]
 pub extern "C" fn crackd_sum_many(
     handle: &mut TableHandle,

@@ -10,8 +10,8 @@ use crack_core::Core;
 use crack_row::{Bound, BoundNumber, Limits, Refusal};
 use std::alloc::Global;
 
-/// Opens a table with these splits and limits, in a box. Refused as `Core::open_with` is, and with `OutOfMemory` if
-/// no memory is found for the list of bounds or the box.
+/// Opens a table with these splits and limits, in a box. Refused as `Core::open_with` is, and with `OutOfMemory` if no
+/// memory is found for the list of bounds or the box. O(splits).
 pub fn open(alloc: Global, splits: &[u64], limits: Limits) -> Result<Box<Core>, Refusal>
     ensures opened { IfOk result (λ core. (core.value.splits ≡ bounds_at splits.now) × (core.value.limits ≡ limits)) }
     ensures fresh { IfOk result (λ core. All (λ (part : Part). table_of part ≡ fresh_table) core.value.parts) }
@@ -25,7 +25,7 @@ pub fn open(alloc: Global, splits: &[u64], limits: Limits) -> Result<Box<Core>, 
     Ok(held)
 }
 
-/// The splits as bounds. Refused with `OutOfMemory` if no memory is found for the list.
+/// The bounds with these numbers, in order. Refused with `OutOfMemory` if no memory is found for the list.
 fn bounds_of(alloc: Global, splits: &[u64]) -> Result<Vec<Bound>, Refusal>
     ensures ok { IfOk result (λ bounds. bounds.items ≡ bounds_at splits.now) }
     ensures err { IfErr result (λ e. e ≡ Refusal.OutOfMemory) }

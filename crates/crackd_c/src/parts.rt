@@ -17,7 +17,7 @@ impl<T, A: Allocator> Model for BoxParts<T, A> {
 }
 
 impl<T, A: Allocator> BoxParts<T, A> {
-    /// Takes a box apart.
+    /// Takes a box apart. O(1).
     pub fn of(b: Box<T, A>) -> BoxParts<T, A>
     where
         T: Drop,
@@ -27,7 +27,7 @@ impl<T, A: Allocator> BoxParts<T, A> {
         BoxParts { ptr, alloc }
     }
 
-    /// Puts the box together again.
+    /// Makes a box of these fields again. O(1).
     pub fn into_box(self) -> Box<T, A>
         ensures { result.value ≡ self.value }
     {

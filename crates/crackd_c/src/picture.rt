@@ -18,7 +18,7 @@ pub struct LayoutTotals {
     pub pieces: u64,
 }
 
-/// The totals of a layout, without its list of pieces.
+/// The totals of a layout, without its list of pieces. O(1).
 pub fn totals_of(layout: &Layout) -> LayoutTotals
     ensures { result ≡ totals_in layout.now }
 {
@@ -33,7 +33,8 @@ pub fn totals_of(layout: &Layout) -> LayoutTotals
     }
 }
 
-/// Writes the least key and the size of each piece, as far as the lists have room.
+/// Writes the least key and the size of each piece, as far as the two lists have room, which must have the same
+/// length. A piece above all keys gets 0 as its least key. O(pieces).
 pub fn list_pieces(pieces: &[PieceSize], lows: &mut [u64], sizes: &mut [u64])
     requires { length sizes.old ≡ length lows.old }
     ensures { PiecesIn pieces.now lows.new sizes.new }

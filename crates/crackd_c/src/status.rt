@@ -34,7 +34,8 @@ pub fn policy_of(number: u32) -> Option<Policy>
     }
 }
 
-/// Writes how many calls of a list were answered, and returns the number of the refusal that stopped them, or 0.
+/// Writes to `done` how many calls of a list were answered, and returns the status: the number of the refusal that
+/// ended the list, or `ANSWERED` if there is none.
 pub fn close_list(progress: BulkProgress, done: &mut u64) -> u32
     ensures done { done.new ≡ progress.done }
     ensures status { result ≡ status_of progress.refusal }

@@ -20,7 +20,8 @@ const NEAR: u32 = 3;
 /// The range of a query is narrower than this, unless it is of all keys.
 const WIDEST: u32 = 64;
 
-/// A deletion or an update takes one of this many serials, up to that of the last row that the worker inserted.
+/// A deletion or an update takes one of this many serials, of which the greatest is that of the last row that the
+/// worker inserted.
 const BACK: u32 = 64;
 
 /// What a worker asks a partition for.
@@ -48,7 +49,7 @@ pub struct DrawnQuestions {
 }
 
 impl DrawnQuestions {
-    /// The questions of the worker with this number.
+    /// The questions of the worker with this number, in a run with this seed.
     pub fn new(seed: u64, worker: u32) -> DrawnQuestions {
         let mut draws = DrawnQuestions {
             state: seed.wrapping_mul(64).wrapping_add(u64::from(worker)),
@@ -71,8 +72,8 @@ impl DrawnQuestions {
         ((self.number() >> 32) as u32) % most.max(1)
     }
 
-    /// The next question. One in 64 asks a partition that doesn't exist, and one in 32 keys is drawn from any
-    /// partition.
+    /// The next question. One in 64 asks a partition that doesn't exist. One in 100 is a checkpoint, and the others
+    /// are commands.
     pub fn next(&mut self) -> Question {
         let part = match self.below(64) {
             0 => PARTS as u32,
@@ -85,7 +86,7 @@ impl DrawnQuestions {
         Question { part, asked }
     }
 
-    /// A command; `number`, below 99, chooses its kind.
+    /// A random command for partition `part`. Its kind depends on `number`, which is below 99.
     fn command(&mut self, part: u32, number: u32) -> Command {
         match number {
             0..28 => Command::Insert {
@@ -106,7 +107,7 @@ impl DrawnQuestions {
         }
     }
 
-    /// Notes the serial of a row that was inserted into a partition, if the answer has one.
+    /// Records the serial of the row that was inserted into a partition, if this answer has one.
     pub fn learn(&mut self, part: u32, answer: &Result<Reply, Refusal>) {
         if let (Some(last), Ok(Reply::Placed(serial))) = (
             self.last.get_mut(part as usize),
@@ -116,7 +117,7 @@ impl DrawnQuestions {
         }
     }
 
-    /// A random key of the partition; one in 32 is of any partition.
+    /// A random key of partition `part`, or, once in 32 times, of a random partition.
     fn key(&mut self, part: u32) -> Key {
         let part = match self.below(32) {
             0 => self.below(PARTS as u32),
@@ -125,13 +126,13 @@ impl DrawnQuestions {
         Key::from_number(self.key_of(part))
     }
 
-    /// A random key of a partition, as a number; of the first partition if this one doesn't exist.
+    /// A random key of partition `part`, as a number; of the first partition if there is no such partition.
     fn key_of(&mut self, part: u32) -> KeyNumber {
         let first = FIRST_KEYS.get(part as usize).copied().unwrap_or(0);
         first.saturating_add(KeyNumber::from(self.below(DRAWN_KEYS)))
     }
 
-    /// A payload. One in four is near the least or the greatest payload; half of the others are negative.
+    /// A random payload. One in four is near the least or the greatest payload; half of the others are negative.
     fn payload(&mut self) -> Payload {
         let near = PayloadNumber::from(self.below(NEAR));
         let number = PayloadNumber::from(self.below(u32::MAX));
@@ -143,13 +144,14 @@ impl DrawnQuestions {
         })
     }
 
-    /// The serial of one of the last rows that were inserted, which may be deleted already.
+    /// A serial up to that of the last row that the worker inserted into partition `part`, and less than `BACK` below
+    /// it. The row may be deleted already.
     fn serial(&mut self, part: u32) -> Serial {
         let last = self.last.get(part as usize).copied().unwrap_or(0);
         Serial(last.saturating_sub(u64::from(self.below(BACK))))
     }
 
-    /// A narrow range that begins in the partition; one in 32 is the range of all keys.
+    /// A range narrower than `WIDEST` that begins in partition `part`, or, once in 32 times, the range of all keys.
     fn range(&mut self, part: u32) -> KeyRange {
         let low = BoundNumber::from(self.key_of(part));
         let wide = BoundNumber::from(self.below(WIDEST));

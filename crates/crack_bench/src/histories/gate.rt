@@ -9,8 +9,8 @@ use std::thread;
 /// One in this many commands of each partition is refused.
 const REFUSED: u32 = 50;
 
-/// At one in this many commands of each partition the gate refuses once and yields to other threads, under the
-/// partition's lock; it consents when it is called again.
+/// At one in this many commands of each partition the gate refuses its first call and yields to other threads, under
+/// the partition's lock. The table then calls it again.
 const GIVES_WAY: u32 = 3;
 
 /// The most times that a thread yields while it waits for the others to begin.
@@ -22,12 +22,12 @@ const PATIENCE: u32 = 100000;
 pub struct Restless {
     /// How many threads have begun.
     pub begun: AtomicU32,
-    /// How many commands of each partition came to the gate.
+    /// How many commands of each partition the gate was called for.
     pub entered: [AtomicU32; PARTS],
 }
 
 impl Restless {
-    /// Waits until this many threads have called this, or it has yielded `PATIENCE` times.
+    /// Counts the calling thread. Waits until this many threads are counted, or until it has yielded `PATIENCE` times.
     pub fn begin_together(&self, threads: u64) {
         self.begun.fetch_add(1, Ordering::SeqCst);
         'others: for _ in 0..PATIENCE {
@@ -42,6 +42,9 @@ impl Restless {
 impl Gate for Restless {
     ghost may_refuse = { λ gate part turn. Unit {0} };
 
+    /// Whether the command may be executed. The first call for a command, with turn 0, gives it the next number of its
+    /// partition. False at every call for the last of each `REFUSED` numbers, and at the first call for the first of
+    /// each `GIVES_WAY` numbers, after a yield. Always true for a partition that doesn't exist.
     fn inside(&self, part: u32, turn: u32) -> bool {
         let Some(entered) = self.entered.get(part as usize) else {
             return true;

@@ -17,13 +17,13 @@ pub struct Recorder<'a> {
     /// How many workers begin together.
     pub workers: u64,
     pub text: Vec<u8>,
-    /// Whether some of the text is missing for lack of memory.
+    /// Whether some of the text is missing because no memory was found for it.
     pub cut: bool,
 }
 
 impl Recorder<'_> {
-    /// Asks a command, and records it with its answer. Refused with `WriteFault` if no memory is found for the
-    /// text.
+    /// Has the worker ask partition `part` a command, and records the partition, the command and the answer, which may
+    /// be a refusal. Refused with `WriteFault` if no memory is found for the text.
     fn ask<A: Works>(
         &mut self,
         worker: &mut A,
@@ -36,7 +36,8 @@ impl Recorder<'_> {
         write_answer(part, part, &command, answer.as_ref(), &mut text)
     }
 
-    /// Writes the questions and answers, and then the receipts. Refused with `OutOfMemory` if some text is missing.
+    /// Writes the line `worker W`, the questions and answers, the line `receipts W`, and the worker's receipts.
+    /// Refused with `OutOfMemory` if some of the text is missing, and with `WriteFault` if the writer fails.
     pub fn write<J: Naming, W: Write>(
         &self,
         worker: &Worker<J>,
@@ -57,7 +58,8 @@ impl Recorder<'_> {
 }
 
 impl Questions for Recorder<'_> {
-    /// Waits until the other workers begin too, and then has the worker ask `count` questions, and records them.
+    /// Waits until the other workers begin too, and then has the worker ask the next `count` questions, and records
+    /// them.
     fn ask_next<A: Works>(&mut self, worker: &mut A, count: u64) {
         self.gate.begin_together(self.workers);
         'questions: for _ in 0..count {

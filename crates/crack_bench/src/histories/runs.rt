@@ -30,8 +30,9 @@ pub struct Plan {
 /// A worker of the table, and its questions.
 type Asking<'a, R, J> = Hand<TableWorker<'a, R, Restless, J>, Recorder<'a>>;
 
-/// Has the workers ask a table with an audit, and writes their replies and the histories. Refused if the table
-/// can't be opened, if no memory is found, as the gathering is, and if the writer fails.
+/// Opens a table with an audit, has its workers ask, and writes their questions and answers, and the histories.
+/// Refused as `UnnamedTable::open` and `gather` are, with `OutOfMemory` if no memory is found, and with `WriteFault`
+/// if the writer fails.
 pub fn carry_out<R: BenchHost, W: Write>(
     rt: &R,
     plan: Plan,
@@ -68,7 +69,8 @@ fn carry_out_named<J: Naming + Send + Sync, R: BenchHost, W: Write>(
     }
 }
 
-/// Has the workers ask, and writes their questions and answers. Then moves the workers to `left`.
+/// Has the workers ask, writes their questions and answers, and moves the workers to `left`. Refused with
+/// `OutOfMemory` if no memory is found, and with `WriteFault` if the writer fails.
 fn ask_and_write<J: Naming + Send + Sync, R: BenchHost + Sync, W: Write>(
     rt: &R,
     plan: Plan,
@@ -91,7 +93,8 @@ fn ask_and_write<J: Naming + Send + Sync, R: BenchHost + Sync, W: Write>(
     }
 }
 
-/// Has the workers ask, each on a thread of its own, and writes their questions and answers.
+/// Adds each worker with its questions to `hands`, has the workers ask, each on a thread of its own, and writes their
+/// questions and answers. Refused as `ask_and_write` is.
 fn work<'a, J: Naming + Send + Sync, R: BenchHost + Sync, W: Write>(
     rt: &'a R,
     gate: &'a Restless,
@@ -122,7 +125,7 @@ fn work<'a, J: Naming + Send + Sync, R: BenchHost + Sync, W: Write>(
     write_hands(hands, writer)
 }
 
-/// Writes the questions and answers of the workers, one worker after another.
+/// Writes the questions, answers and receipts of the workers, one worker after another.
 fn write_hands<J: Naming, R: BenchHost, W: Write>(
     hands: &[Asking<'_, R, J>],
     writer: &mut Watched<W>,
@@ -133,7 +136,8 @@ fn write_hands<J: Naming, R: BenchHost, W: Write>(
     Ok(())
 }
 
-/// Gathers the workers, and writes the histories. Refused as the gathering is.
+/// Gathers the workers, and writes the histories and the totals. Refused as `gather` is, and with `WriteFault` if the
+/// writer fails.
 fn gather_and_write<J: Naming, W: Write>(
     alloc: Global,
     table: Table<J>,
@@ -170,7 +174,7 @@ fn write_gathered<J: Naming, W: Write>(
     written(writer.flush())
 }
 
-/// Writes the entries of a partition.
+/// Writes the entries of partition `part`: a line with the worker and the command of each, and the lines of its reply.
 fn write_entries<W: Write>(
     part: u32,
     entries: &[Entry],

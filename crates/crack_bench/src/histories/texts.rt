@@ -1,5 +1,5 @@
-//! Questions and answers as lines: a statement, and then the lines of its reply. Refused with `WriteFault` if the
-//! writer fails.
+//! Questions and answers as lines: a statement, and then the lines of its reply. Each function that writes is refused
+//! with `WriteFault` if the writer fails.
 
 use arrayvec::ArrayVec;
 use crack_commands::{
@@ -23,7 +23,7 @@ pub fn written(line: io::Result<()>) -> Result<(), Refusal> {
     }
 }
 
-/// Writes a command as a session's statement.
+/// Writes a command to partition `part` as a session's statement.
 fn write_command<W: Write>(
     part: u32,
     command: &Command,
@@ -51,6 +51,7 @@ fn write_command<W: Write>(
     }
 }
 
+/// Writes the statement that inserts a row with this key and payload.
 fn write_insert<W: Write>(
     key: Key,
     payload: Payload,
@@ -60,6 +61,7 @@ fn write_insert<W: Write>(
     written(writeln!(writer, "insert {key} {payload}"))
 }
 
+/// Writes the statement with this name, `count`, `sum` or `select`, over a range.
 fn write_query<W: Write>(
     name: &str,
     range: KeyRange,
@@ -69,13 +71,14 @@ fn write_query<W: Write>(
     written(writeln!(writer, "{name} {low} {high}"))
 }
 
+/// Writes the line of a row of partition `part`.
 fn write_row<W: Write>(part: u32, row: &Row, writer: &mut Watched<W>) -> Result<(), Refusal> {
     let mut text = Text::new();
     push_row(&mut text, part, row);
     send(writer, text.as_slice())
 }
 
-/// Writes the number of rows, and then a line for each row.
+/// Writes a line with the number of rows, and then a line for each row of partition `part`.
 fn write_rows<W: Write>(part: u32, rows: &[Row], writer: &mut Watched<W>) -> Result<(), Refusal> {
     let mut text = Text::new();
     push_head(&mut text, rows.len() as u64);
@@ -86,6 +89,7 @@ fn write_rows<W: Write>(part: u32, rows: &[Row], writer: &mut Watched<W>) -> Res
     Ok(())
 }
 
+/// Writes the lines of a reply of partition `part`.
 fn write_reply<W: Write>(part: u32, reply: &Reply, writer: &mut Watched<W>) -> Result<(), Refusal> {
     let mut text = Text::new();
     match reply {
@@ -100,12 +104,14 @@ fn write_reply<W: Write>(part: u32, reply: &Reply, writer: &mut Watched<W>) -> R
     send(writer, text.as_slice())
 }
 
+/// Writes the line of a refusal.
 fn write_refusal<W: Write>(refusal: &Refusal, writer: &mut Watched<W>) -> Result<(), Refusal> {
     let mut text = Text::new();
     push_refusal(&mut text, refusal);
     send(writer, text.as_slice())
 }
 
+/// Writes the line of a checkpoint of this many commands.
 fn write_checkpoint_reply<W: Write>(
     checkpointed: u64,
     writer: &mut Watched<W>,
@@ -115,7 +121,7 @@ fn write_checkpoint_reply<W: Write>(
     send(writer, text.as_slice())
 }
 
-/// Writes a number, a command to a partition, and the answer.
+/// Writes a line with this number and a command to partition `part`, and then the lines of the answer.
 pub fn write_answer<W: Write>(
     number: u32,
     part: u32,
@@ -131,7 +137,7 @@ pub fn write_answer<W: Write>(
     }
 }
 
-/// Writes a checkpoint of a partition, and its outcome.
+/// Writes a line with the number of a partition and its statement `checkpoint`, and then the line of the outcome.
 pub fn write_checkpoint<W: Write>(
     part: u32,
     outcome: &Result<u64, Refusal>,
@@ -144,7 +150,8 @@ pub fn write_checkpoint<W: Write>(
     }
 }
 
-/// Writes a partition's number, and how many of its commands are checkpointed, if any.
+/// Writes the line `partition P`. If N of its commands are checkpointed, and N isn't 0, writes `partition P folded N`
+/// instead.
 pub fn write_part<W: Write>(
     part: u32,
     partition: &Partition,
@@ -156,7 +163,7 @@ pub fn write_part<W: Write>(
     }
 }
 
-/// Writes a receipt: its partition, position and worker, and the command and its reply.
+/// Writes a receipt: a line with its partition, position and worker and the command, and then the lines of the reply.
 pub fn write_receipt<W: Write>(receipt: &Receipt, writer: &mut Watched<W>) -> Result<(), Refusal> {
     let (part, position) = (receipt.part, receipt.position);
     written(write!(writer, "{part} {position} "))?;

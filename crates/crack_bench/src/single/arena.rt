@@ -6,8 +6,9 @@ use crack_arena::{Arena, Handle, MOST_CELLS, MOST_FREED};
 use crack_row::{Key, KeyNumber, Payload, Refusal, Row, Serial};
 use std::time::Instant;
 
-/// Measures this many steps, each an insertion, a read or a free at a random handle, on an arena with this many rows.
-/// Writes how full the arena then is, and a checksum.
+/// Measures this many steps on an arena that has `rows` rows at first. Each step is an insertion, a read or a free at a
+/// random handle. Writes the time of the steps, how many rows and cells the arena then has, how often cells were freed,
+/// and a checksum.
 pub fn measure<R: BenchOutput>(rt: &R, steps: u64, rows: u32) -> Outcome {
     let mut arena = Arena::new(rt.alloc());
     let mut handles = Vec::new(rt.alloc());
@@ -17,6 +18,7 @@ pub fn measure<R: BenchOutput>(rt: &R, steps: u64, rows: u32) -> Outcome {
     outcome
 }
 
+/// Implements `measure` for an arena and a list of handles, both empty; `count` is the number of steps.
 fn measure_steps<R: BenchOutput>(
     rt: &R,
     arena: &mut Arena<Row>,
@@ -35,7 +37,7 @@ fn measure_steps<R: BenchOutput>(
     Ok(())
 }
 
-/// Inserts this many rows with random keys, and keeps their handles in order. Refused as `put` is.
+/// Inserts this many rows with random keys, and adds their handles to `handles` in order. Refused as `put` is.
 pub fn fill(
     arena: &mut Arena<Row>,
     handles: &mut Vec<Handle<Row>>,
@@ -56,7 +58,8 @@ pub fn fill(
     Ok(())
 }
 
-/// Inserts a row, and keeps its handle. Refused with `OutOfMemory` also if there are `MOST_CELLS` cells.
+/// Inserts a row, and adds its handle to `handles`. Refused with `OutOfMemory` if no memory is found, or if there are
+/// `MOST_CELLS` cells.
 fn put(arena: &mut Arena<Row>, handles: &mut Vec<Handle<Row>>, row: Row) -> Result<(), Refusal> {
     if arena.cells() as u64 >= MOST_CELLS {
         return Err(Refusal::OutOfMemory);
@@ -65,8 +68,9 @@ fn put(arena: &mut Arena<Row>, handles: &mut Vec<Handle<Row>>, row: Row) -> Resu
     Ok(())
 }
 
-/// One step, with equal chances: inserts a row with the serial `number`, or reads or frees the row of a random
-/// handle, which it returns. Inserts a row if there is no handle; frees nothing after `MOST_FREED` frees.
+/// Takes one step, at random with equal chances: inserts a row with the serial `number`, reads the row of a random
+/// handle, or frees the row of a random handle. Returns the row that was read or freed, or `None`. If there is no
+/// handle, inserts a row. Frees nothing after `MOST_FREED` frees. Refused as `put` is.
 fn step(
     arena: &mut Arena<Row>,
     handles: &mut Vec<Handle<Row>>,

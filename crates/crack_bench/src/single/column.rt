@@ -19,7 +19,8 @@ const LATER_CRACKS: u32 = 16;
 /// The distance between the later bounds.
 const LATER_STEP: u32 = 134217728;
 
-/// Measures cracks of a column of random rows.
+/// Measures cracks of a column of this many rows with random keys, whose handles are in random order. Writes what
+/// `measure_cracks` writes.
 pub fn measure<R: BenchOutput>(rt: &R, rows: u32) -> Outcome {
     let mut arena = Arena::new(rt.alloc());
     let mut handles = Vec::new(rt.alloc());
@@ -31,6 +32,8 @@ pub fn measure<R: BenchOutput>(rt: &R, rows: u32) -> Outcome {
     outcome
 }
 
+/// Implements `measure`: fills the arena, the list of handles and the column, which are empty, and measures the
+/// cracks.
 fn fill_and_crack<R: BenchOutput>(
     rt: &R,
     arena: &mut Arena<Row>,
@@ -47,7 +50,8 @@ fn fill_and_crack<R: BenchOutput>(
     measure_cracks(rt, column, arena)
 }
 
-/// Measures the first crack and the later ones, and writes their checksums.
+/// Measures the first crack and the later ones. Writes the place of the first bound, a checksum of the places of the
+/// later bounds, and a checksum of the handles.
 fn measure_cracks<R: BenchOutput>(rt: &R, column: &mut CrackerColumn, arena: &Arena<Row>) -> Outcome
     requires { Remembers arena.now.cells column.old.handles column.old.remembered }
 {
@@ -61,7 +65,7 @@ fn measure_cracks<R: BenchOutput>(rt: &R, column: &mut CrackerColumn, arena: &Ar
     Ok(())
 }
 
-/// Shuffles the handles.
+/// Brings the handles into a random order.
 fn shuffle(handles: &mut [Handle<Row>], numbers: &mut Numbers) {
     'places: for i in 1..handles.len() {
         let other = numbers.below(i as u64 + 1) as usize;
@@ -69,7 +73,8 @@ fn shuffle(handles: &mut [Handle<Row>], numbers: &mut Numbers) {
     }
 }
 
-/// Appends the handles in order, at most `MOST_PLACES` of them. No row is remembered yet.
+/// Appends the handles in order, at most `MOST_PLACES` of them, to a column that is empty. Refused with `OutOfMemory`
+/// if no memory is found.
 fn append_all(
     column: &mut CrackerColumn,
     handles: &[Handle<Row>],
@@ -97,7 +102,7 @@ fn crack(column: &mut CrackerColumn, number: u32, arena: &Arena<Row>) -> usize
     column.crack_two(0, len, bound.unwrap_or(InnerBound::least()), arena)
 }
 
-/// Cracks the whole column at rising bounds. Returns a checksum of their places.
+/// Cracks the whole column at `LATER_CRACKS` rising bounds. Returns a checksum of the places of the bounds.
 fn crack_on(column: &mut CrackerColumn, arena: &Arena<Row>) -> u64
     requires { Remembers arena.now.cells column.old.handles column.old.remembered }
 {
@@ -109,7 +114,7 @@ fn crack_on(column: &mut CrackerColumn, arena: &Arena<Row>) -> u64
     sum
 }
 
-/// A checksum of the order of the handles.
+/// A checksum of the handles in the order of the column.
 fn sum(column: &CrackerColumn) -> u64 {
     let mut sum = 0;
     'places: for place in 0..column.len() {

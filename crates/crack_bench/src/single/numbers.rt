@@ -26,7 +26,7 @@ impl Numbers {
     }
 }
 
-/// Mixes a value into a checksum, in which order matters.
+/// The checksum `sum` with a value mixed in. The order of the values matters.
 pub fn mixed(sum: u64, value: u64) -> u64 {
     (sum ^ value).wrapping_mul(1099511628211)
 }

@@ -82,7 +82,8 @@ pub struct Measured {
 }
 
 impl Measured {
-    /// A new partition that merges by this policy, with the first random numbers. Refused if no memory is found.
+    /// A new partition of all keys that merges by this policy, with the first random numbers. Refused with
+    /// `OutOfMemory` if no memory is found.
     pub fn open(alloc: Global, policy: Policy, sizes: Sizes) -> Result<Measured, Refusal> {
         let numbers = Numbers { state: 11 };
         Ok(Measured {
@@ -97,7 +98,8 @@ impl Measured {
         })
     }
 
-    /// Lists the serials of the first `Sizes::rows` rows as those that may be deleted.
+    /// Lists the serials of the first `Sizes::rows` rows as those that may be deleted. Refused with `OutOfMemory` if
+    /// no memory is found.
     pub fn list_rows(&mut self, alloc: Global) -> Result<(), Refusal> {
         self.rows = (0..u64::from(self.sizes.rows)).collect(alloc)?;
         Ok(())
@@ -113,7 +115,8 @@ impl Measured {
         Ok(())
     }
 
-    /// The range of the query with the number `at` in a series.
+    /// The range that `keys` means for the query with the number `at` in a series. Refused with `BadRange` if its ends
+    /// are out of order or too great.
     fn range(&mut self, keys: Keys, at: u32) -> Result<KeyRange, Refusal> {
         let (low, width) = match keys {
             Keys::All => (0, GREATEST_BOUND),
@@ -133,14 +136,14 @@ impl Measured {
         KeyRange::new(low, low.saturating_add(width))
     }
 
-    /// The low end of a random range.
+    /// A random low end for a range of up to `WIDTH` keys.
     fn place(&mut self) -> BoundNumber
         ensures { result < 4294967296 }
     {
         BoundNumber::from(self.numbers.word()) % (KEYS_END - WIDTH)
     }
 
-    /// Removes a random row from the list. `None` if the list is empty.
+    /// Removes a random serial from the list of rows that may be deleted, and returns it. `None` if the list is empty.
     fn take_row(&mut self) -> Option<Serial> {
         if self.rows.is_empty() {
             return None;
@@ -149,8 +152,8 @@ impl Measured {
         Some(Serial(self.rows.swap_remove(at)))
     }
 
-    /// Deletes a random row of the list, inserts another, and replaces its serial in the list. Does nothing if the
-    /// list is empty.
+    /// Deletes a random row of the list, inserts a row with a random key, and replaces the serial in the list by the
+    /// new one. Does nothing if the list is empty. Refused as `apply` is.
     fn update(&mut self) -> Result<(), Refusal> {
         if self.rows.is_empty() {
             return Ok(());
@@ -166,7 +169,9 @@ impl Measured {
         Ok(())
     }
 
-    /// Asks the question with the number `at` in a series.
+    /// Asks the question `ask`, which has the number `at` in a series of the same questions. `Ask::Delete` and
+    /// `Ask::Update` do nothing if the list of rows is empty. Refused as `range` is, and as the partition refuses the
+    /// command.
     fn ask(&mut self, ask: Ask, at: u32) -> Result<(), Refusal> {
         let command = match ask {
             Ask::Insert => insertion(self.numbers.word(), at),
@@ -185,7 +190,7 @@ impl Measured {
         self.apply(command)
     }
 
-    /// Asks the first `times` questions of a series, numbered from 0.
+    /// Asks the question `ask` this many times, numbered from 0. Refused as `ask` is.
     pub fn repeat(&mut self, ask: Ask, times: u32) -> Result<(), Refusal> {
         'times: for at in 0..times {
             self.ask(ask, at)?;
@@ -193,7 +198,9 @@ impl Measured {
         Ok(())
     }
 
-    /// Makes this many batches of `Sizes::second` updates, and after each batch asks for the sum of a range.
+    /// Makes this many batches: each asks `Ask::Update` `Sizes::second` times, so deletes a random row of the list and
+    /// inserts another, and then asks for the sum of the range that `keys` means. No row is changed if the list is
+    /// empty. Refused as `ask` is.
     pub fn update_in_batches(&mut self, batches: u32, keys: Keys) -> Result<(), Refusal> {
         'batches: for at in 0..batches {
             self.repeat(Ask::Update, self.sizes.second)?;
@@ -203,7 +210,7 @@ impl Measured {
     }
 }
 
-/// A command that inserts a row.
+/// A command that inserts a row with this key and payload.
 fn insertion(key: u32, payload: u32) -> Command {
     Command::Insert {
         key: Key::from_number(KeyNumber::from(key)),

@@ -18,9 +18,9 @@ enum Times {
     Next,
     /// Once for each row.
     Rows,
-    /// Once for each of half the rows.
+    /// Half as often as `Rows`, rounded down.
     Half,
-    /// Once for each of the other rows.
+    /// Once for each row that `Half` leaves out.
     OtherHalf,
     /// Once for each bound between `Sizes::first` pieces.
     Bounds,
@@ -41,13 +41,13 @@ enum BenchStep {
     Ask(Ask, Times),
     /// Asks this many times. Writes the time of each under this name.
     Each(Ask, Times, &'static str),
-    /// Makes this many batches of updates, with the sum of a range after each.
+    /// Makes this many batches of updates, and after each asks for the sum of a range of this kind.
     Batches(Times, Keys),
     /// Lists the rows that updates and deletions choose from.
     List,
     /// Begins a part: its time, its checksum and its random numbers.
     Begin,
-    /// Goes back to the random numbers at which the part began.
+    /// Sets the random numbers back to those at which the part began.
     Again,
     /// Writes the time since the part began, or since the last written time.
     Time(&'static str),
@@ -57,7 +57,8 @@ enum BenchStep {
     Sum(&'static str),
     /// Counts all keys. Writes the checksum of the earlier replies, and the count.
     Next,
-    /// Makes a checkpoint. Writes its time, how many commands it counted, and the rows, with a checksum.
+    /// Makes a checkpoint. Writes its time, how many commands it counted, and the number of rows with a checksum of
+    /// them.
     Checkpoint(&'static str),
     /// Writes the counts of the merges.
     Tally,
@@ -109,7 +110,7 @@ const COLD: Kind = Kind {
     ],
 };
 
-/// Sums while every row is pending, of ranges without rows.
+/// Sums of ranges without rows, while every row is pending.
 const PASS: Kind = Kind {
     numbers: 1,
     load: LOW,
@@ -307,7 +308,8 @@ pub fn kind_of(name: &str) -> Option<Kind> {
     }
 }
 
-/// Carries out a measurement of a new partition that merges by this policy, and writes results and times.
+/// Carries out the measurement `kind` with these sizes, on a new partition that merges by this policy, and writes
+/// results and times.
 pub fn measure<R: BenchOutput>(rt: &R, kind: Kind, policy: Policy, sizes: Sizes) -> Outcome {
     let mut table = Measured::open(rt.alloc(), policy, sizes)?;
     let outcome = match take_all(rt, &mut table, kind.load) {
@@ -318,7 +320,7 @@ pub fn measure<R: BenchOutput>(rt: &R, kind: Kind, policy: Policy, sizes: Sizes)
     outcome
 }
 
-/// Takes the steps of a list, in order.
+/// Takes the steps of a list, in order, until one fails.
 fn take_all<R: BenchOutput>(rt: &R, table: &mut Measured, steps: &[BenchStep]) -> Outcome {
     let mut start = Instant::now(rt)?;
     'steps: for step in steps {
@@ -327,7 +329,8 @@ fn take_all<R: BenchOutput>(rt: &R, table: &mut Measured, steps: &[BenchStep]) -
     Ok(())
 }
 
-/// Takes a step of a part that began at `start`. Returns when the part of the next step began.
+/// Takes a step of a part that began at `start`, or whose last time was written then. Returns from when the next
+/// written time counts: from now after `Begin` and `Time`, else from `start`.
 fn take<R: BenchOutput>(
     rt: &R,
     table: &mut Measured,
@@ -348,7 +351,7 @@ fn take<R: BenchOutput>(
     }
 }
 
-/// Takes a step that neither begins a part nor writes its time.
+/// Takes a step. Does nothing if it is `Begin` or `Time`, which `take` takes itself.
 fn carry_out<R: BenchOutput>(rt: &R, table: &mut Measured, step: BenchStep) -> Outcome {
     match step {
         BenchStep::Ask(ask, times) => Ok(table.repeat(ask, number_of(times, table.sizes))?),
@@ -370,7 +373,7 @@ fn carry_out<R: BenchOutput>(rt: &R, table: &mut Measured, step: BenchStep) -> O
     }
 }
 
-/// Asks this many times, and writes the time of each.
+/// Asks the question `ask` as often as `times` says. Writes the time of each under this name.
 fn measure_each<R: BenchOutput>(
     rt: &R,
     table: &mut Measured,
@@ -386,7 +389,7 @@ fn measure_each<R: BenchOutput>(
     Ok(())
 }
 
-/// How many times that is, in a measurement of these sizes.
+/// How often `times` means in a measurement of these sizes.
 fn number_of(times: Times, sizes: Sizes) -> u32 {
     match times {
         Times::Once => 1,
@@ -402,13 +405,14 @@ fn number_of(times: Times, sizes: Sizes) -> u32 {
     }
 }
 
-/// Writes a result: its name and its number.
+/// Writes a result to standard output: its name and its number.
 fn write<R: BenchOutput>(rt: &R, name: &str, number: u64) -> Outcome {
     println!(rt; "{name} {number}")?;
     Ok(())
 }
 
-/// Writes to standard error how many rows the partition's merges put in, took out, evicted, moved and pulled.
+/// Writes to standard error how many rows the partition's merges inserted (`put_in`), deleted (`taken_out`), evicted,
+/// moved and pulled.
 fn write_tally<R: BenchOutput>(rt: &R, partition: &Partition) -> Outcome {
     let did = partition.tally();
     let (insertions, deletions, evicted) = (did.insertions, did.deletions, did.evicted);
@@ -418,7 +422,7 @@ fn write_tally<R: BenchOutput>(rt: &R, partition: &Partition) -> Outcome {
     Ok(())
 }
 
-/// Takes the step `Next`.
+/// Counts all keys. Writes the checksum of the earlier counts and sums, and the count.
 fn measure_next<R: BenchOutput>(rt: &R, table: &mut Measured) -> Outcome {
     let sum = table.sum;
     table.repeat(Ask::Count(Keys::All), 1)?;
@@ -427,7 +431,8 @@ fn measure_next<R: BenchOutput>(rt: &R, table: &mut Measured) -> Outcome {
     Ok(())
 }
 
-/// Takes the step `Checkpoint`.
+/// Makes a checkpoint. Writes its time, how many commands the partition had accepted since the previous one, and the
+/// number of rows with a checksum of them.
 fn measure_checkpoint<R: BenchOutput>(rt: &R, table: &mut Measured, name: &str) -> Outcome {
     let start = Instant::now(rt)?;
     let entries = table.partition.checkpoint();

@@ -9,6 +9,7 @@ use crack_row::{BoundNumber, Command, GREATEST_LIMIT, KeyRange, Refusal, Reply};
 use std::alloc::Global;
 
 impl AnswersCommands for Vec<Partition> {
+    /// Executes the command on partition `part`, as `Partition::apply` does.
     fn ask(&mut self, part: u32, command: Command) -> Result<Reply, Refusal> {
         match self.get_mut(part as usize) {
             Some(partition) => partition.apply(command, POLICY),
@@ -17,7 +18,9 @@ impl AnswersCommands for Vec<Partition> {
     }
 }
 
-/// Takes the steps of one worker at partitions without a table, and writes the results.
+/// Runs the commands of one worker on partitions that are asked directly, without a table's locks and receipts: inserts
+/// `rows` rows for each partition and counts all rows, takes `steps` steps of a `Mix`, and writes the count and the
+/// total of the sums.
 pub fn run<R: BenchHost>(rt: &R, rows: u32, steps: u32) -> Outcome {
     let mut partitions = opened(rt.alloc())?;
     let parts = PartSpan {
@@ -33,7 +36,7 @@ pub fn run<R: BenchHost>(rt: &R, rows: u32, steps: u32) -> Outcome {
     Ok(())
 }
 
-/// Opens the partitions of one worker, without rows.
+/// Opens the partitions of one worker, without rows. Refused with `OutOfMemory` if no memory is found.
 fn opened(alloc: Global) -> Result<Vec<Partition>, Refusal> {
     let mut partitions = Vec::new(alloc);
     'parts: for part in 0..PARTS_EACH {
@@ -44,7 +47,8 @@ fn opened(alloc: Global) -> Result<Vec<Partition>, Refusal> {
     Ok(partitions)
 }
 
-/// Inserts the rows, counts them, and takes the steps. Returns the count, and the sum of all sums.
+/// Inserts `rows` rows for each partition, counts all rows, and takes `steps` steps of the mix. Returns the count, and
+/// the total of the sums. Refused as a partition refuses a command.
 fn ask(
     mix: &mut Mix,
     partitions: &mut Vec<Partition>,

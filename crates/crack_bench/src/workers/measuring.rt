@@ -56,12 +56,12 @@ pub struct MeasuredRun {
 }
 
 impl MeasuredRun {
-    /// How many partitions there are.
+    /// How many partitions the table of the run has.
     pub fn parts(&self) -> u32 {
         self.workers.saturating_mul(PARTS_EACH)
     }
 
-    /// The commands of the worker with this number.
+    /// The commands of the worker with this number, which has inserted no row yet.
     fn mix(&self, alloc: Global, worker: u32) -> Mix {
         let parts = match self.sharing {
             Sharing::Own => PartSpan {
@@ -77,7 +77,7 @@ impl MeasuredRun {
     }
 }
 
-/// Carries out a run over a table and its workers.
+/// Carries out a run over a table and its workers, and then gathers the workers or drops them, as `run.end` says.
 pub fn run_over<J: Naming + Send + Sync, R: BenchHost>(
     rt: &R,
     table: Table<J>,
@@ -95,7 +95,7 @@ pub fn run_over<J: Naming + Send + Sync, R: BenchHost>(
     }
 }
 
-/// Has the workers carry out a run, and then moves them to `left`.
+/// Has the workers carry out a run, and then moves them to `left`. If the run fails, they are dropped.
 fn carry_out<J: Naming + Send + Sync, R: BenchHost + Sync>(
     rt: &R,
     table: &Table<J>,
@@ -141,7 +141,7 @@ fn add_workers<'a, J: Naming, R: BenchHost + Sync>(
     Ok(())
 }
 
-/// Inserts the rows, and has the workers carry out the run.
+/// Inserts the rows, writes the time of that, and has the workers do the work of the run.
 fn measure<R: BenchHost, A: Works + Send + Drop>(
     rt: &R,
     hands: &mut Vec<Hand<A, Mix>>,
@@ -167,8 +167,9 @@ fn load<A: Works>(hands: &mut [Hand<A, Mix>], rows: u32) -> Result<(), Refusal> 
     Ok(())
 }
 
-/// Counts all rows, and measures the workers' steps. The sums of shared partitions depend on the workers' order, so
-/// they aren't written.
+/// Counts all rows, has each worker take `steps` steps on a thread of its own, and writes the count, the time and the
+/// total of the sums. If the workers share partitions, the sums depend on the order of their commands, so the total
+/// isn't written.
 fn measure_threads<R: BenchHost, A: Works + Send + Drop>(
     rt: &R,
     hands: &mut Vec<Hand<A, Mix>>,
@@ -199,7 +200,8 @@ fn sum_of<A>(hands: &[Hand<A, Mix>]) -> Result<u64, Refusal> {
     Ok(total)
 }
 
-/// Counts all rows, and measures the steps of the first worker.
+/// Counts all rows, has the first worker take `steps` steps, and writes the count, the time and the total of the sums.
+/// Does nothing if there is no worker.
 fn measure_alone<R: BenchOutput, A: Works>(
     rt: &R,
     hands: &mut [Hand<A, Mix>],
@@ -217,7 +219,7 @@ fn measure_alone<R: BenchOutput, A: Works>(
     Ok(())
 }
 
-/// Makes a checkpoint of each partition, through the first worker.
+/// Makes a checkpoint of each of `parts` partitions, through the first worker. Does nothing if there is no worker.
 fn checkpoint_all<A: Works>(hands: &mut [Hand<A, Mix>], parts: u32) -> Result<(), Refusal> {
     let Some(hand) = hands.first_mut() else {
         return Ok(());
@@ -228,8 +230,8 @@ fn checkpoint_all<A: Works>(hands: &mut [Hand<A, Mix>], parts: u32) -> Result<()
     Ok(())
 }
 
-/// Gathers the workers. Writes how long that took, before and after the partitions are dropped, and the totals.
-/// Refused as `gather` is.
+/// Gathers the workers. Writes the time until they are gathered, the time until the partitions are dropped too, and the
+/// totals. Refused as `gather` is.
 fn gather_all<J: Naming, R: BenchOutput>(
     rt: &R,
     table: Table<J>,
@@ -253,7 +255,7 @@ fn gather_all<J: Naming, R: BenchOutput>(
     }
 }
 
-/// Writes the totals of gathered workers, and how long the gathering took.
+/// Writes the time since `start`, and the totals of gathered workers: accepted, inserted, deleted and held.
 fn print_totals<R: BenchOutput>(rt: &R, start: Instant, totals: [u64; 4]) -> io::Result<()> {
     report(rt, "gather", start)?;
     let [accepted, inserted, deleted, held] = totals;

@@ -36,18 +36,19 @@ pub struct Mix {
     parts: PartSpan,
     rows: Vec<InsertedRow>,
     number: u32,
-    /// The total of the sums of its last steps.
+    /// The total of the sums in the last call of `ask_next`, or the first refusal of that call.
     pub sums: Result<u64, Refusal>,
 }
 
 impl Questions for Mix {
+    /// Has the worker take `count` steps of four commands each, and keeps the total of the sums in `sums`.
     fn ask_next<A: Works>(&mut self, worker: &mut A, count: u64) {
         self.sums = self.steps(worker, count);
     }
 }
 
 impl Mix {
-    /// A mix over these partitions, which begins at this number.
+    /// The commands of a worker to these partitions, without rows yet. The random numbers depend on `number`.
     pub fn new(alloc: Global, parts: PartSpan, number: u32) -> Mix {
         Mix {
             parts,
@@ -65,13 +66,14 @@ impl Mix {
         mixed ^ (mixed >> 16)
     }
 
-    /// A random one of the partitions.
+    /// The number of a random one of the partitions.
     fn next_part(&mut self) -> u32 {
         let place = self.next() % self.parts.count.max(1);
         self.parts.first.wrapping_add(place)
     }
 
-    /// Inserts a row into one of the partitions.
+    /// Inserts a row with a random key into a random one of the partitions. Returns its partition and serial, and
+    /// doesn't add it to `rows`. Refused as the command is.
     fn insert<A: AnswersCommands>(&mut self, asked: &mut A) -> Result<InsertedRow, Refusal> {
         let part = self.next_part();
         let key = part
@@ -88,7 +90,8 @@ impl Mix {
         })
     }
 
-    /// Asks for the sum of a range of one of the partitions.
+    /// Asks for the sum of a random range in a random one of the partitions, and returns it. Refused as the command
+    /// is.
     fn sum<A: AnswersCommands>(&mut self, asked: &mut A) -> Result<u64, Refusal> {
         let part = self.next_part();
         let low = part
@@ -100,7 +103,8 @@ impl Mix {
         Ok(number_of(&reply))
     }
 
-    /// Deletes one of the rows. Returns its index, or 0 if there is no row.
+    /// Deletes a random row of `rows`, where it stays listed. Returns its index there. Does nothing and returns 0 if
+    /// `rows` is empty. Refused as the command is.
     fn delete<A: AnswersCommands>(&mut self, asked: &mut A) -> Result<usize, Refusal> {
         let number = self.next() as usize;
         if self.rows.is_empty() {
@@ -112,7 +116,8 @@ impl Mix {
         Ok(at)
     }
 
-    /// Inserts this many rows with random keys into random ones of the partitions.
+    /// Inserts this many rows with random keys into random ones of the partitions, and adds them to `rows`. Refused as
+    /// a command is, and with `OutOfMemory` if no memory is found.
     pub fn load<A: AnswersCommands>(&mut self, asked: &mut A, rows: u32) -> Result<(), Refusal> {
         'rows: for _ in 0..rows {
             let placed = self.insert(asked)?;
@@ -121,8 +126,8 @@ impl Mix {
         Ok(())
     }
 
-    /// Asks for a sum, a delete, a sum and an insert, whose row replaces the deleted one. Returns the total of both
-    /// sums.
+    /// Asks for a sum, a delete, a sum and an insert. The inserted row replaces the deleted one in `rows`. Returns the
+    /// total of both sums. Refused as the first refused command is.
     fn step<A: AnswersCommands>(&mut self, asked: &mut A) -> Result<u64, Refusal> {
         let first = self.sum(asked)?;
         let at = self.delete(asked)?;
@@ -134,7 +139,8 @@ impl Mix {
         Ok(first.wrapping_add(second))
     }
 
-    /// Takes this many steps of four statements each. Returns the total of all sums.
+    /// Takes this many steps of four commands each. Returns the total of all sums. Refused as the first refused
+    /// command is.
     pub fn steps<A: AnswersCommands>(&mut self, asked: &mut A, count: u64) -> Result<u64, Refusal> {
         let mut total = 0u64;
         'steps: for _ in 0..count {
@@ -144,7 +150,7 @@ impl Mix {
     }
 }
 
-/// Counts the rows of the first `parts` partitions.
+/// Counts the rows of the first `parts` partitions. Refused as a command is.
 pub fn count_all<A: AnswersCommands>(asked: &mut A, parts: u32) -> Result<u64, Refusal> {
     let mut total = 0u64;
     'parts: for part in 0..parts {
@@ -154,7 +160,7 @@ pub fn count_all<A: AnswersCommands>(asked: &mut A, parts: u32) -> Result<u64, R
     Ok(total)
 }
 
-/// The splits between `parts` partitions.
+/// The splits between `parts` partitions of `PART_WIDTH` keys each. Refused with `OutOfMemory` if no memory is found.
 pub fn splits(alloc: Global, parts: u32) -> Result<Vec<Bound>, Refusal> {
     let mut splits = Vec::new(alloc);
     'parts: for part in 1..parts {

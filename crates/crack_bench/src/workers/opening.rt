@@ -9,7 +9,7 @@ use crack_table::UnnamedTable;
 use crack_witness::Naming;
 use std::marker::Brand;
 
-/// Opens a table, with an audit or without, and carries out the run.
+/// Opens a table, with an audit if `is_audited`, and carries out the run.
 pub fn run<R: BenchHost>(rt: &R, is_audited: bool, run: MeasuredRun) -> Outcome {
     let splits = splits(rt.alloc(), run.parts())?;
     let limits = Limits::of_history(GREATEST_LIMIT);

@@ -46,10 +46,10 @@ returns-clause-asks_in_part g c = err_from _ _ c.load_reads.result c.load_reads.
 ))
 
 pub returns-clause-loaded : goal.returns-clause-loaded
-returns-clause-loaded g c = ok_from _ _ c.load_reads.result c.load_reads.ensures.ends (λ count r tables e. (r.bytes, r.bytes_are, r.ended.told tables e))
+returns-clause-loaded g c = ok_from _ _ c.load_reads.result c.load_reads.ensures.ends (λ count r tables e. (r.bytes, r.bytes_are, r.ended.if_known tables e))
 
 pub returns-clause-cut_short : goal.returns-clause-cut_short
-returns-clause-cut_short g c = err_from _ _ c.load_reads.result c.load_reads.ensures.stops (λ fault r tables e. (r.bytes, r.bytes_are, r.told tables e))
+returns-clause-cut_short g c = err_from _ _ c.load_reads.result c.load_reads.ensures.stops (λ fault r tables e. (r.bytes, r.bytes_are, r.if_known tables e))
 
 pub returns-clause-causes : goal.returns-clause-causes
 returns-clause-causes g c = err_from _ _ c.load_reads.result c.load_reads.ensures.causes (λ fault may.

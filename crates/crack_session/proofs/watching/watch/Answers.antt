@@ -5,8 +5,8 @@ use Rattle.crack_session.specs.Calls.{Surveyed}
 use Rattle.crack_session.proofs.Calling.{Calls-push}
 use Rattle.crack_session.proofs.watching.watch.Goals as goal
 
-same_told : {s t : Statistics} → ◌≡◌ {A = Result Statistics Refusal} (Ok s) (Ok t) → s ≡ t
-same_told e = cc e
+same_reported : {s t : Statistics} → ◌≡◌ {A = Result Statistics Refusal} (Ok s) (Ok t) → s ≡ t
+same_reported e = cc e
 
 never : {P : Type 0} {e : Refusal} {t : Statistics} → ◌≡◌ {A = Result Statistics Refusal} (Err e) (Ok t) → P
 never same = absurd (cc same)
@@ -18,7 +18,7 @@ returns-in-Ok g c =
     record {
       is = λ tables e.
           let told = c.in-Ok.ensures.are tables e in
-          (tables, (record { each = told.0; right = told.1; traffic = traffic; answer_is = rw (same_told told.2) refl }, refl), e);
+          (tables, (record { each = told.0; right = told.1; traffic = traffic; answer_is = rw (same_reported told.2) refl }, refl), e);
       bounds_are = refl;
       splits_are = refl;
       calls = calls ++ Surveyed traffic ∷ [];

@@ -1,11 +1,11 @@
 use Rattle.std.proofs.Common.{refl}
 use Rattle.crack_core.specs.Steps.{tables_of}
-use Rattle.crack_session.proofs.Known.{told_if_known, answered_if_known}
+use Rattle.crack_session.proofs.Known.{reported_if_known, answered_if_known}
 use Rattle.crack_session_tests.proofs.one_core.serve_and_export.Goals as goal
 
 pub returns-in-Ok-export_csv : goal.returns-in-Ok-export_csv
 returns-in-Ok-export_csv g c = λ bytes out e h.
-    let one = told_if_known _ _ _ _ _ _ _ _ _ _ _ c.in-Ok.ensures.ends bytes out e h in
+    let one = reported_if_known _ _ _ _ _ _ _ _ _ _ _ c.in-Ok.ensures.ends bytes out e h in
     let told = c.in-Ok-export_csv.ensures.exported _ refl in (
       tables_of c.serve.new.desk.parts,
       one.answers,

@@ -7,7 +7,7 @@ use Rattle.crack_core.specs.Steps.{Bounds, tables_of}
 use Rattle.crack_session.specs.declared.answer.Answer.{Answer}
 use Rattle.crack_session.specs.Answers.{answer_text}
 use Rattle.crack_session.specs.Sessions.{AreAnswers}
-use Rattle.crack_session.proofs.Known.{told_if_known, answered_if_known}
+use Rattle.crack_session.proofs.Known.{reported_if_known, answered_if_known}
 use Rattle.crack_session_tests.proofs.one_core.serve_both.Goals as goal
 
 -- answers over the bounds and splits that another desk has too
@@ -18,8 +18,8 @@ alike b b' s s' known left rs answers e f h =
 
 pub returns-in-Ok-serve : goal.returns-in-Ok-serve
 returns-in-Ok-serve g c = λ bytes more out e f h.
-    let one = told_if_known _ _ _ _ _ _ _ _ _ _ _ c.in-Ok.ensures.ends bytes out e h in
-    let other = told_if_known _ _ _ _ _ _ _ _ _ _ _ c.in-Ok-serve.ensures.ends more (out ++ concat (map answer_text one.answers)) f one.written_is in (
+    let one = reported_if_known _ _ _ _ _ _ _ _ _ _ _ c.in-Ok.ensures.ends bytes out e h in
+    let other = reported_if_known _ _ _ _ _ _ _ _ _ _ _ c.in-Ok-serve.ensures.ends more (out ++ concat (map answer_text one.answers)) f one.written_is in (
       tables_of c.serve.new.desk.parts,
       one.answers,
       other.answers,

@@ -5,7 +5,7 @@ use Rattle.std.proofs.lemmas.List.{get_or_push}
 use Rattle.crack_row.specs.declared.command.Policy.TheVariants.{Complete}
 use Rattle.crack_session.specs.Calls.{Call, Calls}
 use Rattle.crack_session.specs.Readings.{statements}
-use Rattle.crack_session.proofs.Known.{told_if_known}
+use Rattle.crack_session.proofs.Known.{reported_if_known}
 use Rattle.crack_table.specs.Tables.{TableState}
 use Rattle.crack_witness.specs.Witnesses.{WorkerState}
 use Rattle.crack_worker_desk.specs.Histories.{IsGathered, AreOfHistories}
@@ -44,7 +44,7 @@ returns g c =
     let read = c.args.input.now in
     let pushed : workers ≡ c.args.others.items ++ c.into_worker.result ∷ [] = rw c.expect.ensures at c.push.ensures.items in
     let held : Contains workers last.worker = subst (Contains workers) c.into_worker.ensures (pushed_last c.args.others.items workers c.into_worker.result pushed) in
-    let told = told_if_known _ _ _ _ Complete old last _ _ _ c.expect-end.result (rw c.expect-end.ensures at c.serve-ended.ensures.ends) read [] (rw c.new-reader.ensures.device refl) (rw (c.new-writer.ensures.device, c.new.ensures.items) refl) in
+    let told = reported_if_known _ _ _ _ Complete old last _ _ _ c.expect-end.result (rw c.expect-end.ensures at c.serve-ended.ensures.ends) read [] (rw c.new-reader.ensures.device refl) (rw (c.new-writer.ensures.device, c.new.ensures.items) refl) in
     let answers = told.answers in
     let made = told.are.made in
     let table : last.table.now ≡ c.args.table = same_table _ (λ d. d.table.now) (λ d call e led. led.0) made.0 old last made.1 ∙ c.new-desk.ensures.table in

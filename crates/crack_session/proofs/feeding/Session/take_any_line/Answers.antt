@@ -1,6 +1,6 @@
 use Rattle.std.proofs.Common.{◌∙◌, ◌+◌, ◌++◌, [], ◌∷◌, sym, ap, arith, take}
 use Rattle.std.proofs.lemmas.List.{take_all}
-use Rattle.crack_session.specs.Telling.{of_option}
+use Rattle.crack_session.specs.AskingDesks.{of_option}
 use Rattle.crack_session.specs.Feeding.{SessionState}
 use Rattle.crack_session.specs.Input.{has_feed}
 use Rattle.crack_session.proofs.Feeds.{first_line-none, taken_line}

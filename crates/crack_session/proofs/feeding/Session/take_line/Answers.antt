@@ -1,6 +1,6 @@
 use Rattle.std.proofs.Common.{◌∙◌, ◌+◌, ◌++◌, [], ◌∷◌, Ok, sym, ap, arith, take, length}
 use Rattle.crack_commands.specs.declared.statement.Statement.TheVariants.{Insert}
-use Rattle.crack_session.specs.Telling.{of_option}
+use Rattle.crack_session.specs.AskingDesks.{of_option}
 use Rattle.crack_session.specs.Feeding.{SessionState}
 use Rattle.crack_session.specs.Input.{has_feed}
 use Rattle.crack_session.specs.Readings.{reading_of}

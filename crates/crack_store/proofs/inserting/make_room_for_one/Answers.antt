@@ -1,7 +1,7 @@
 use Rattle.std.proofs.Common.{[], arith}
 use Rattle.crack_state.proofs.LayoutLaws.{cells-intact}
 use Rattle.crack_store.specs.Inside.{lists_of}
-use Rattle.crack_store.proofs.admitting.make_room_for_one.Goals as goal
+use Rattle.crack_store.proofs.inserting.make_room_for_one.Goals as goal
 
 pub reserve-requires : goal.reserve-requires
 reserve-requires c =

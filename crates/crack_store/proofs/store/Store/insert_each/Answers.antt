@@ -1,5 +1,5 @@
 use Rattle.crack_store.proofs.RunLemmas.{IsRun-none, IsRun-may, IsRun-next}
-use Rattle.crack_store.proofs.store.Store.admit_each.Goals as goal
+use Rattle.crack_store.proofs.store.Store.insert_each.Goals as goal
 
 pub rows-init : goal.rows-init
 rows-init c = IsRun-none c.args.first.0 c.args.keys.now c.args.payloads.now c.args.self.now c.requires.insertable

@@ -1,5 +1,5 @@
 use Rattle.crack_store.proofs.RunLemmas.{IsRun}
-use Rattle.crack_store.proofs.store.Store.admit_each.Given as goal
+use Rattle.crack_store.proofs.store.Store.insert_each.Given as goal
 
 -- the rows before this index were inserted
 abbrev pub invariant-rows : goal.invariant-rows

@@ -12,7 +12,8 @@ use crate::inside::Inside;
 use crack_arena::Remembered;
 use crack_row::{Key, KeyNumber, Payload, PayloadNumber, Refusal, Row, Serial};
 
-/// Makes room for one row. O(1), except for growth.
+/// Makes room for one row with this serial: a pending insertion, a cell, and an entry of its serial. O(1), except for
+/// growth. Refused with `OutOfMemory` if no memory is found; then no row has changed.
 #[inline(always)]
 pub(crate) fn make_room_for_one(inside: &mut Inside, serial: Serial) -> Result<(), Refusal>
     requires kept { KeepsIntact inside.old [] }
@@ -30,7 +31,8 @@ pub(crate) fn make_room_for_one(inside: &mut Inside, serial: Serial) -> Result<(
         .make_places(inside.arena.cells() + new_cells)
 }
 
-/// Makes room for a run of rows. O(1), except for growth.
+/// Makes room for `rows` rows with consecutive serials, from `first` on: pending insertions, cells, and entries of
+/// their serials. O(1), except for growth. Refused with `OutOfMemory` if no memory is found; then no row has changed.
 pub(crate) fn make_room_for_run(
     inside: &mut Inside,
     first: Serial,
@@ -74,7 +76,8 @@ pub(crate) fn add_row(inside: &mut Inside, row: Row)
     inside.in_room = 0;
 }
 
-/// Adds the rows of a run, for which there is room, in order. O(rows); takes no memory.
+/// Adds the rows of a run, for which there must be room, in order. Each has the key and the payload at its index, and
+/// the serials rise by one from `first`. O(rows); takes no memory.
 pub(crate) fn add_rows(
     inside: &mut Inside,
     first: Serial,
@@ -97,7 +100,7 @@ pub(crate) fn add_rows(
     }
 }
 
-/// The row at this index of a run.
+/// The row at this index of a run: its key and payload are at the index, and its serial is `first` plus the index.
 #[inline(always)]
 pub(crate) fn row_at_index(
     first: Serial,

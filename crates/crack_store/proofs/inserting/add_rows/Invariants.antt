@@ -3,7 +3,7 @@ use Rattle.crack_store.specs.Inside.{lists_of}
 use Rattle.crack_store.specs.Keeps.{KeepsIntact}
 use Rattle.crack_store.specs.Rooms.{HasRooms}
 use Rattle.crack_store.proofs.RunLemmas.{IsRun}
-use Rattle.crack_store.proofs.admitting.add_rows.Given as goal
+use Rattle.crack_store.proofs.inserting.add_rows.Given as goal
 
 -- the rows before this index were added, and there is room for the others
 abbrev pub invariant-rows : goal.invariant-rows

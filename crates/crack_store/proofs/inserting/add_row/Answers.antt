@@ -7,7 +7,7 @@ use Rattle.crack_state.proofs.InsertLaws.{IsIntact-row_inserted, live_rows-row_i
 use Rattle.crack_store.specs.Inside.{lists_of}
 use Rattle.crack_store.proofs.InsertLemmas.{is_covered, all_covered, covered-next}
 use Rattle.crack_store.proofs.RememberLemmas.{Remembers-row_inserted, Remembers-off, added}
-use Rattle.crack_store.proofs.admitting.add_row.Goals as goal
+use Rattle.crack_store.proofs.inserting.add_row.Goals as goal
 
 pub insert_reserved-requires : goal.insert_reserved-requires
 insert_reserved-requires c = room_for-first c.args.inside.now.serials c.args.row.serial.0 0 c.requires.room.serials

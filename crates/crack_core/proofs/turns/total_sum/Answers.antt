@@ -3,7 +3,7 @@ use Rattle.std.proofs.lemmas.Int.{ints, to_z-of_z}
 use Rattle.std.proofs.lemmas.List.Sums.{fold_more}
 use Rattle.crack_plain.specs.Plain.{IsSmall}
 use Rattle.crack_core.proofs.AskLaws.{summed-small}
-use Rattle.crack_core.proofs.turns.sum_told.Goals as goal
+use Rattle.crack_core.proofs.turns.total_sum.Goals as goal
 
 pub replies-preserved : goal.replies-preserved
 replies-preserved c =

@@ -5,8 +5,8 @@ use Rattle.crack_store.specs.Inside.{lists_of}
 use Rattle.crack_store.specs.Rooms.{HasRooms}
 use Rattle.crack_store.proofs.RoomLemmas.{HasRooms-same, HasRooms-first}
 use Rattle.crack_store.proofs.RunLemmas.{IsRun, IsRun-none, IsRun-may, IsRun-next}
-use Rattle.crack_store.proofs.admitting.add_rows.Goals as goal
-use Rattle.crack_store.proofs.admitting.add_rows.Goals.{After-row_at_index, After-rows}
+use Rattle.crack_store.proofs.inserting.add_rows.Goals as goal
+use Rattle.crack_store.proofs.inserting.add_rows.Goals.{After-row_at_index, After-rows}
 
 pub rows-init : goal.rows-init
 rows-init c = record {

@@ -1,7 +1,0 @@
-use Rattle.std.proofs.Common.{◌≡◌, ◌*◌, ◌^◌, take, pos, neg_ℤ, ◌≤ℤ◌}
-use Rattle.crack_core.specs.Asking.{sum_told}
-use Rattle.crack_core.proofs.turns.sum_told.Given as goal
-
-abbrev pub invariant-replies : goal.invariant-replies
-invariant-replies l =
-    (l.total ≡ sum_told (take l.reply-index l.replies)) × (neg_ℤ (pos (l.reply-index * 2 ^ 96)) ≤ℤ l.total) × (l.total ≤ℤ pos (l.reply-index * 2 ^ 96))
