@@ -16,7 +16,7 @@ from .forks import NoLock, leave_in_children
 from .layout import PartLayout, Piece
 from .library import TOTALS, Handle, Totals, library
 from .placed import NOWHERE, Placed, PlacedOne, Taken, joined
-from .routing import FEW_PARTS, shard_of
+from .routing import PartFinder
 from .typed import RowNumbers
 
 HISTORY = 1_000_000
@@ -278,29 +278,10 @@ class LocalShard:
         """
         if self.partitions == 1 or np is None:
             return self.place_many(keys, payloads, placed)
+        load = Load(self, len(keys))
         for at in range(0, len(keys), ROWS_AT_ONCE):
-            self._load_block(keys[at : at + ROWS_AT_ONCE], payloads[at : at + ROWS_AT_ONCE], placed)
+            load.insert(keys[at : at + ROWS_AT_ONCE], payloads[at : at + ROWS_AT_ONCE], placed)
         return placed.rows()
-
-    def _load_block(self, keys: Any, payloads: Any, placed: Placed) -> None:
-        """Inserts the next rows of a load, partition by partition."""
-        parts = shard_of(np.array(self.cuts, np.uint64), keys, FEW_PARTS).astype(np.uint8)
-        order = np.argsort(parts, kind="stable")
-        keys, payloads, at, before = keys[order], payloads[order], 0, placed.done.value
-        refusals: dict[int, int] = {}
-        while at < len(order):
-            each = Placed(len(order) - at)
-            try:
-                self.place_many(keys[at:], payloads[at:], each)
-            except Refused as error:
-                refusals[int(order[at + error.done])] = error.code
-            placed.put(order[at : at + each.done.value] + before, each.rows())
-            at += each.done.value
-            # skips the rest of the refused row's partition; another partition may have a refused row that comes earlier
-            at += int(np.count_nonzero(parts[order[at:]] == parts[order[at]])) if at < len(order) else 0
-        first = min(refusals, default=len(order))
-        placed.done.value = before + first
-        self._check(refusals.get(first, 0), placed.done.value)
 
     def delete_many(self, rows: Any) -> Any:
         """Deletes rows in order. Returns 1 for each that existed and 0 for each that didn't."""
@@ -463,6 +444,43 @@ class LocalShard:
     def __del__(self) -> None:
         if getattr(self, "_handle", None) is not None and self._handle.is_open:
             self._library.close(self._ref)
+
+
+class Load:
+    """Inserts the rows of a load into a shard, a block of them at a time, and in a block partition by partition.
+
+    All blocks use the same arrays, since the system takes longer to supply new memory than these lines take to use it.
+    """
+
+    def __init__(self, shard: LocalShard, rows: int):
+        size = min(rows, ROWS_AT_ONCE)
+        self._shard, self._finder = shard, PartFinder(np.array(shard.cuts, np.uint64), rows)
+        self._keys, self._payloads = empty("Q", size), empty("q", size)
+        self._placed = empty("I", size), empty("Q", size), empty("Q", size)
+
+    def insert(self, keys: Any, payloads: Any, placed: Placed) -> None:
+        """Inserts the next rows, whose numbers go to `placed`."""
+        parts = self._finder.find(keys)
+        order = np.argsort(parts, kind="stable")
+        # (numpy uses `out` directly only in some modes)
+        keys = keys.take(order, out=self._keys[: len(order)], mode="clip")
+        payloads = payloads.take(order, out=self._payloads[: len(order)], mode="clip")
+        at, before, refusals = 0, placed.done.value, dict[int, int]()
+        while at < len(order):
+            each = Placed(len(order) - at, self._placed)
+            try:
+                rows = self._shard.place_many(keys[at:], payloads[at:], each)
+            except Refused as error:
+                refusals[int(order[at + error.done])] = error.code
+                rows = each.rows()
+            placed.put(before, order[at : at + len(rows)], rows)
+            at += len(rows)
+            # skips the rest of the refused row's partition; another partition may have a refused row that comes earlier
+            at += int(np.count_nonzero(parts[order[at:]] == parts[order[at]])) if at < len(order) else 0
+        first = min(refusals, default=len(order))
+        placed.done.value = before + first
+        if refusals:
+            raise refused(refusals[first], placed.done.value)
 
 
 def _parted(rows: Any) -> tuple[Any, Any]:

@@ -27,10 +27,14 @@ Answer = TypeVar("Answer")
 class Placed:
     """The rows that one call of the library inserts: their partitions and serials, and their number."""
 
-    def __init__(self, size: int):
-        self.parts, self.serials, self.done = empty("I", size), empty("Q", size), c_uint64()
-        # allocated now, since after a refusal there may be no memory for the row numbers
-        self._rows, self._is_put = empty("Q", size), False
+    def __init__(self, size: int, arrays: Optional[tuple[Any, Any, Any]] = None):
+        """Makes room for `size` rows, or uses the first items of `arrays`."""
+        if arrays is None:
+            # the row numbers get theirs now, since after a refusal there may be no memory
+            self.parts, self.serials, self._rows = empty("I", size), empty("Q", size), empty("Q", size)
+        else:
+            self.parts, self.serials, self._rows = (it[:size] for it in arrays)
+        self.done, self._is_put = c_uint64(), False
 
     def rows(self) -> RowNumbers:
         """The numbers of the rows inserted so far."""
@@ -38,9 +42,9 @@ class Placed:
         found: RowNumbers = self._rows[:done] if self._is_put else joined(self.parts, self.serials, self._rows, done)
         return found
 
-    def put(self, places: Any, rows: RowNumbers) -> None:
-        """Stores the numbers of rows that other calls inserted, at the places of these rows among all rows."""
-        self._rows[places], self._is_put = rows, True
+    def put(self, begin: int, places: Any, rows: RowNumbers) -> None:
+        """Stores the numbers of rows that another call inserted, at their places among the rows from `begin` on."""
+        self._rows[begin:][places], self._is_put = rows, True
 
 
 class PlacedOne:

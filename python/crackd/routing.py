@@ -22,6 +22,9 @@ IN_SHARD = (1 << SHARD_SHIFT) - 1
 # fit into a processor's cache, that holds for fewer than `FEW_PARTS` splits. With up to `FEW_SHARDS` shards, rows are
 # looked up shard by shard.
 FEW_SHARDS, FEW_PARTS = 16, 64
+# A `PartFinder` has a table of up to `1 << INTERVAL_BITS` intervals. It isn't worth its cost for fewer than `FEW_SPLITS`
+# splits or fewer than `FEW_KEYS` keys.
+INTERVAL_BITS, FEW_SPLITS, FEW_KEYS = 14, 16, 10_000
 
 
 class Block(NamedTuple):
@@ -60,6 +63,41 @@ def shard_of(cuts: Any, keys: Any, few: int = FEW_SHARDS) -> Any:
     for cut in cuts:
         found += keys >= cut
     return found
+
+
+class PartFinder:
+    """Finds the partitions of many keys, for at most 255 splits in ascending order.
+
+    It divides the keys between the first split and the last into equal intervals. For each it stores how many splits
+    are below the interval and which split comes next, so it compares each key with one split. If two splits are in one
+    interval, it compares each key with each split.
+    """
+
+    def __init__(self, cuts: Any, keys: int):
+        self._cuts, self._has_table = cuts, len(cuts) >= FEW_SPLITS and keys >= FEW_KEYS
+        if not self._has_table:
+            return
+        self._low = cuts[0]
+        self._shift = np.uint64(max(int(cuts[-1] - cuts[0]).bit_length() - INTERVAL_BITS, 0))
+        splits = np.bincount(((cuts - self._low) >> self._shift).astype(np.int64))
+        self._last = np.uint64(len(splits) - 1)
+        below = np.cumsum(splits) - splits
+        self._below, self._next = below.astype(np.uint8), cuts[below]
+        self._has_table = int(splits.max()) == 1
+
+    def find(self, keys: Any) -> Any:
+        """The partition of each key, in an array of uint8."""
+        if not self._has_table:
+            return shard_of(self._cuts, keys, FEW_PARTS).astype(np.uint8)
+        # keys below the first split are in its interval too, and keys above the last one in the last interval
+        at = np.maximum(keys, self._low)
+        at -= self._low
+        at >>= self._shift
+        np.minimum(at, self._last, out=at)
+        at = at.view(np.int64)
+        found = self._below.take(at)
+        found += keys >= self._next.take(at)
+        return found
 
 
 def blocks_of(shards: Any) -> Iterator[Block]:

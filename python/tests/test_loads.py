@@ -27,8 +27,10 @@ class Loads(InShards, unittest.TestCase):
     def setUp(self):
         self.drawn = random.Random(7)
         at_once = mock.patch.multiple(crackd.table, LONG=self.ALWAYS, MANY_ROWS=0, FEW_ITEMS=-1)
-        at_once.start()
-        self.addCleanup(at_once.stop)
+        tables = mock.patch.object(crackd.routing, "FEW_KEYS", 20)
+        for it in (at_once, tables):
+            it.start()
+            self.addCleanup(it.stop)
 
     def tables(self):
         """Options of tables with one partition, with a few, with some that get no row, and with many."""

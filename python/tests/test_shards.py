@@ -2,9 +2,11 @@
 
 import os
 import pathlib
+import random
 import tempfile
 import threading
 import unittest
+from bisect import bisect_right
 from unittest import mock
 
 from clusters import cluster, wants_cluster
@@ -232,6 +234,20 @@ class Parts(unittest.TestCase):
                 self.assertEqual(crackd.routing.shard_of(cuts, keys, *few).tolist(), [
                     min(it // 10, count) for it in keys.tolist()
                 ])
+
+    def test_the_partition_of_each_key(self):
+        drawn, top = random.Random(1), 2**64 - 1
+        even, near, far = range(1, 640, 10), [5, 6, 7, 8, 2**63], [it**10 for it in range(1, 64)]
+        for cuts in ([1], [top], [1, top], even, range(2**50, 2**50 + 255), near, [*near, top], far):
+            keys = {it + by for it in (0, *cuts, top) for by in (-1, 0, 1) if 0 <= it + by <= top}
+            keys.update(drawn.randrange(2**it) for it in range(1, 65) for _ in range(9))
+            keys = drawn.sample(sorted(keys), len(keys))
+            for few in (1, 1000):
+                with mock.patch.multiple(crackd.routing, FEW_SPLITS=few, FEW_KEYS=few):
+                    finder = crackd.routing.PartFinder(np.array(cuts, np.uint64), len(keys))
+                self.assertEqual(finder._has_table, few == 1 and cuts not in (near, [*near, top], far))
+                found = finder.find(np.array(keys, np.uint64))
+                self.assertEqual((found.dtype, found.tolist()), (np.uint8, [bisect_right(cuts, it) for it in keys]))
 
     def test_blocks_keep_the_order_of_rows(self):
         # shard numbers that differ by 256, or whose order changes if they are cut to 8 bits
