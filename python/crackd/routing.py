@@ -22,8 +22,8 @@ IN_SHARD = (1 << SHARD_SHIFT) - 1
 # fit into a processor's cache, that holds for fewer than `FEW_PARTS` splits. With up to `FEW_SHARDS` shards, rows are
 # looked up shard by shard.
 FEW_SHARDS, FEW_PARTS = 16, 64
-# A `PartFinder` has a table of up to `1 << INTERVAL_BITS` intervals. It isn't worth its cost for fewer than `FEW_SPLITS`
-# splits or fewer than `FEW_KEYS` keys.
+# A `PartFinder` has a table of up to `1 << INTERVAL_BITS` intervals. With fewer than `FEW_SPLITS` splits, or for fewer
+# than `FEW_KEYS` keys, the table isn't worth its cost.
 INTERVAL_BITS, FEW_SPLITS, FEW_KEYS = 14, 16, 10_000
 
 

@@ -4,25 +4,25 @@ use Rattle.csv.specs.Machine.{Read, ends_at_end, next_record}
 use Rattle.csv.specs.Reading.{default_config, Reached, AreRecords}
 use Rattle.csv.specs.declared.parser.State.{State}
 use Rattle.csv.specs.declared.parser.State.TheVariants as st
-use Rattle.crack_csv.specs.Begun.{Begun, none_begun, ends, with_byte, behind_byte, finished_by, behind, finished_records, finished_by_end}
+use Rattle.crack_csv.specs.Begun.{Begun, none_begun, ends, with_byte, after_byte, finished_by, after_bytes, finished_records, finished_by_end}
 
-pub behind-append : (b : Begun) (xs ys : List ℕ) → behind b (xs ++ ys) ≡ behind (behind b xs) ys
-unfolding behind
-behind-append b [] ys = refl
-behind-append b (x ∷ xs) ys = behind-append (behind_byte b x) xs ys
+pub after_bytes-append : (b : Begun) (xs ys : List ℕ) → after_bytes b (xs ++ ys) ≡ after_bytes (after_bytes b xs) ys
+unfolding after_bytes
+after_bytes-append b [] ys = refl
+after_bytes-append b (x ∷ xs) ys = after_bytes-append (after_byte b x) xs ys
 
-pub finished-append : (b : Begun) (xs ys : List ℕ) → finished_records b (xs ++ ys) ≡ finished_records b xs ++ finished_records (behind b xs) ys
-unfolding behind finished_records
+pub finished-append : (b : Begun) (xs ys : List ℕ) → finished_records b (xs ++ ys) ≡ finished_records b xs ++ finished_records (after_bytes b xs) ys
+unfolding after_bytes finished_records
 finished-append b [] ys = refl
 finished-append b (x ∷ xs) ys =
-    ap (λ z. finished_by b x ++ z) (finished-append (behind_byte b x) xs ys) ∙ sym (append_assoc (finished_by b x) (finished_records (behind_byte b x) xs) (finished_records (behind (behind_byte b x) xs) ys))
+    ap (λ z. finished_by b x ++ z) (finished-append (after_byte b x) xs ys) ∙ sym (append_assoc (finished_by b x) (finished_records (after_byte b x) xs) (finished_records (after_bytes (after_byte b x) xs) ys))
 
-pub behind-one : (b : Begun) (c : ℕ) → behind b (c ∷ []) ≡ behind_byte b c
-unfolding behind
-behind-one b c = refl
+pub after_bytes-one : (b : Begun) (c : ℕ) → after_bytes b (c ∷ []) ≡ after_byte b c
+unfolding after_bytes
+after_bytes-one b c = refl
 
 pub finished-one : (b : Begun) (c : ℕ) → finished_records b (c ∷ []) ≡ finished_by b c
-unfolding behind finished_records
+unfolding after_bytes finished_records
 finished-one b c = append-nil (finished_by b c)
 
 -- the record that the end of the input finishes, as the library's machine reads it
@@ -30,28 +30,28 @@ abbrev last_read : Begun → Option Read
 last_read b = cond (ends_at_end b.state) (Some (b.fields ++ b.field ∷ [], st.StartRecord, [])) None
 
 -- the next record of bytes behind a record that is begun, if they don't finish one
-none_finished : (b : Begun) (xs : List ℕ) → finished_records b xs ≡ [] → next_record default_config b.state b.fields b.field xs ≡ last_read (behind b xs)
-unfolding behind finished_records next_record
+none_finished : (b : Begun) (xs : List ℕ) → finished_records b xs ≡ [] → next_record default_config b.state b.fields b.field xs ≡ last_read (after_bytes b xs)
+unfolding after_bytes finished_records next_record
 none_finished b [] e = refl
 none_finished b (x ∷ xs) e = by_end (ends b x) refl (none_finished (with_byte b x) xs)
   where
-    by_end : (t : Bool) → ends b x ≡ t → (finished_records (with_byte b x) xs ≡ [] → next_record default_config (with_byte b x).state (with_byte b x).fields (with_byte b x).field xs ≡ last_read (behind (with_byte b x) xs)) → next_record default_config b.state b.fields b.field (x ∷ xs) ≡ last_read (behind b (x ∷ xs))
+    by_end : (t : Bool) → ends b x ≡ t → (finished_records (with_byte b x) xs ≡ [] → next_record default_config (with_byte b x).state (with_byte b x).fields (with_byte b x).field xs ≡ last_read (after_bytes (with_byte b x) xs)) → next_record default_config b.state b.fields b.field (x ∷ xs) ≡ last_read (after_bytes b (x ∷ xs))
     by_end true is more = absurd (cc (rw is at e))
     by_end false is more =
-        let same : behind_byte b x ≡ with_byte b x = rw is refl in
+        let same : after_byte b x ≡ with_byte b x = rw is refl in
         let next : next_record default_config b.state b.fields b.field (x ∷ xs) ≡ next_record default_config (with_byte b x).state (with_byte b x).fields (with_byte b x).field xs = rw is refl in
-        next ∙ more (rw is at e) ∙ ap (λ (z : Begun). last_read (behind z xs)) (sym same)
+        next ∙ more (rw is at e) ∙ ap (λ (z : Begun). last_read (after_bytes z xs)) (sym same)
 
 -- the first record that bytes finish is the next one, and the others are behind it
 one_finished : (b : Begun) (xs : List ℕ) (r : List (List ℕ)) (rs : List (List (List ℕ))) → finished_records b xs ≡ r ∷ rs
-    → (s : State) × (ys : List ℕ) × (next_record default_config b.state b.fields b.field xs ≡ Some (r, s, ys)) × (finished_records (none_begun s) ys ≡ rs) × (behind (none_begun s) ys ≡ behind b xs)
-unfolding behind finished_records next_record
+    → (s : State) × (ys : List ℕ) × (next_record default_config b.state b.fields b.field xs ≡ Some (r, s, ys)) × (finished_records (none_begun s) ys ≡ rs) × (after_bytes (none_begun s) ys ≡ after_bytes b xs)
+unfolding after_bytes finished_records next_record
 one_finished b [] r rs e = absurd (cc e)
 one_finished b (x ∷ xs) r rs e = by_end (ends b x) refl (one_finished (with_byte b x) xs r rs)
   where
     by_end : (t : Bool) → ends b x ≡ t
-        → (finished_records (with_byte b x) xs ≡ r ∷ rs → (s : State) × (ys : List ℕ) × (next_record default_config (with_byte b x).state (with_byte b x).fields (with_byte b x).field xs ≡ Some (r, s, ys)) × (finished_records (none_begun s) ys ≡ rs) × (behind (none_begun s) ys ≡ behind (with_byte b x) xs))
-        → (s : State) × (ys : List ℕ) × (next_record default_config b.state b.fields b.field (x ∷ xs) ≡ Some (r, s, ys)) × (finished_records (none_begun s) ys ≡ rs) × (behind (none_begun s) ys ≡ behind b (x ∷ xs))
+        → (finished_records (with_byte b x) xs ≡ r ∷ rs → (s : State) × (ys : List ℕ) × (next_record default_config (with_byte b x).state (with_byte b x).fields (with_byte b x).field xs ≡ Some (r, s, ys)) × (finished_records (none_begun s) ys ≡ rs) × (after_bytes (none_begun s) ys ≡ after_bytes (with_byte b x) xs))
+        → (s : State) × (ys : List ℕ) × (next_record default_config b.state b.fields b.field (x ∷ xs) ≡ Some (r, s, ys)) × (finished_records (none_begun s) ys ≡ rs) × (after_bytes (none_begun s) ys ≡ after_bytes b (x ∷ xs))
     by_end true is more =
         let both : (with_byte b x).fields ∷ finished_records (none_begun (with_byte b x).state) xs ≡ r ∷ rs = rw is at e in
         let first : (with_byte b x).fields ≡ r = cc both in
@@ -63,7 +63,7 @@ one_finished b (x ∷ xs) r rs e = by_end (ends b x) refl (one_finished (with_by
 
 -- the records that bytes finish are the first of them, and what is left is as it is behind them
 pub are_first : (s : State) (xs : List ℕ) (rs : List (List (List ℕ))) → finished_records (none_begun s) xs ≡ rs
-    → (s2 : State) × (ys : List ℕ) × Reached default_config s xs rs s2 ys × (next_record default_config s2 [] [] ys ≡ last_read (behind (none_begun s) xs))
+    → (s2 : State) × (ys : List ℕ) × Reached default_config s xs rs s2 ys × (next_record default_config s2 [] [] ys ≡ last_read (after_bytes (none_begun s) xs))
 unfolding Reached
 are_first s xs [] e = (s, xs, (refl, refl), none_finished (none_begun s) xs e)
 are_first s xs (r ∷ rs) e =
@@ -77,14 +77,14 @@ reached_more s xs [] s1 ys r s2 zs reached next = ((r, s2, zs), rw (reached.0, r
 reached_more s xs (q ∷ rs) s1 ys r s2 zs reached next = (reached.0, reached.1, reached.2, reached_more reached.0.1 reached.0.2 rs s1 ys r s2 zs reached.3 next)
 
 -- with the record that the end finishes, they are all
-pub are_all : (s : State) (xs : List ℕ) → AreRecords default_config s xs (finished_records (none_begun s) xs ++ finished_by_end (behind (none_begun s) xs))
+pub are_all : (s : State) (xs : List ℕ) → AreRecords default_config s xs (finished_records (none_begun s) xs ++ finished_by_end (after_bytes (none_begun s) xs))
 unfolding Reached next_record
-are_all s xs = by_end (ends_at_end (behind (none_begun s) xs).state) refl
+are_all s xs = by_end (ends_at_end (after_bytes (none_begun s) xs).state) refl
   where
-    by_end : (t : Bool) → ends_at_end (behind (none_begun s) xs).state ≡ t → AreRecords default_config s xs (finished_records (none_begun s) xs ++ finished_by_end (behind (none_begun s) xs))
+    by_end : (t : Bool) → ends_at_end (after_bytes (none_begun s) xs).state ≡ t → AreRecords default_config s xs (finished_records (none_begun s) xs ++ finished_by_end (after_bytes (none_begun s) xs))
     by_end true is =
         let first = are_first s xs (finished_records (none_begun s) xs) refl in
-        let last = (behind (none_begun s) xs).fields ++ (behind (none_begun s) xs).field ∷ [] in
+        let last = (after_bytes (none_begun s) xs).fields ++ (after_bytes (none_begun s) xs).field ∷ [] in
         rw is (st.StartRecord, [], reached_more s xs (finished_records (none_begun s) xs) first.0 first.1 last st.StartRecord [] first.2 (rw is at first.3), refl)
     by_end false is =
         let first = are_first s xs (finished_records (none_begun s) xs) refl in

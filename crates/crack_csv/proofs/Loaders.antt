@@ -19,7 +19,7 @@ use Rattle.csv.specs.declared.parser.Action.{Action}
 use Rattle.csv.specs.declared.parser.Action.TheVariants as act
 use Rattle.csv.specs.declared.parser.State.{State}
 use Rattle.csv.specs.declared.parser.State.TheVariants as st
-use Rattle.crack_csv.specs.Begun.{KeptRecord, none_begun, ends, with_byte, kept_of_record, behind, finished_records}
+use Rattle.crack_csv.specs.Begun.{KeptRecord, none_begun, ends, with_byte, kept_of_record, after_bytes, finished_records}
 use Rattle.crack_csv.specs.Loaders.{AreLoaded, HasStopped, HasLoaded, HasEnded, EndsWith, StopsAtEnd, all_records_in, LoaderState, IsHead, Takes, StopsBehind, records_in, begun_in}
 use Rattle.crack_csv.specs.Loads.{Refuses, tables_with_row}
 use Rattle.crack_csv.specs.Records.{is_header, without_header, new_row_of}
@@ -346,7 +346,7 @@ module _ {D : Type 0} (bounds : D → Bounds) (splits : D → List Bound) (table
 
   -- a loader that begins has taken no bytes
   pub HasLoaded-start : (policy : Policy) (origin : D) → HasLoaded bounds splits tables accepted leads policy origin [] (record { policy = policy; head = 0; kept = kept_of_record (none_begun st.StartRecord); number = 0; loaded = 0 }) origin
-  unfolding strip_bom behind finished_records
+  unfolding strip_bom after_bytes finished_records
   HasLoaded-start policy origin = record {
     loaded = AreLoaded-start bounds splits tables accepted leads policy origin;
     policy_is = refl;

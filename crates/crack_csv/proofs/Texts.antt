@@ -3,10 +3,10 @@ use Rattle.std.proofs.Common.{◌≡◌, ℕ, zero, suc, ◌&&◌, Bool, true, f
 use Rattle.std.proofs.lemmas.Bool.{eqb-true}
 use Rattle.csv.specs.Reading.{strip_bom, is_bom}
 use Rattle.csv.specs.declared.parser.State.TheVariants as st
-use Rattle.crack_csv.specs.Begun.{none_begun, behind, behind_byte, finished_records, finished_by}
+use Rattle.crack_csv.specs.Begun.{none_begun, after_bytes, after_byte, finished_records, finished_by}
 use Rattle.crack_csv.specs.Loaders.{IsHead, records_in, begun_in}
 use Rattle.crack_csv.specs.Taking.{head_after}
-use Rattle.crack_csv.proofs.Fed.{behind-append, behind-one, finished-append, finished-one}
+use Rattle.crack_csv.proofs.Fed.{after_bytes-append, after_bytes-one, finished-append, finished-one}
 
 -- bytes that don't begin with a byte order mark
 no_mark : (a b c : ℕ) (rest : List ℕ) → is_bom a b c ≡ false → strip_bom (a ∷ b ∷ c ∷ rest) ≡ a ∷ b ∷ c ∷ rest
@@ -58,8 +58,8 @@ pub behind_head : (n : ℕ) (bytes : List ℕ) (c : ℕ) → IsHead (suc (suc (s
 behind_head n bytes c head more = ap strip_bom (append_assoc bytes (c ∷ []) more) ∙ head (c ∷ more) ∙ sym (append_assoc (strip_bom bytes) (c ∷ []) more) ∙ ap (λ z. z ++ more) (sym (head (c ∷ [])))
 
 -- one more byte of the text
-pub begun_more : (bytes : List ℕ) (c : ℕ) → strip_bom (bytes ++ c ∷ []) ≡ strip_bom bytes ++ c ∷ [] → begun_in (bytes ++ c ∷ []) ≡ behind_byte (begun_in bytes) c
-begun_more bytes c e = ap (behind (none_begun st.StartRecord)) e ∙ behind-append (none_begun st.StartRecord) (strip_bom bytes) (c ∷ []) ∙ behind-one (begun_in bytes) c
+pub begun_more : (bytes : List ℕ) (c : ℕ) → strip_bom (bytes ++ c ∷ []) ≡ strip_bom bytes ++ c ∷ [] → begun_in (bytes ++ c ∷ []) ≡ after_byte (begun_in bytes) c
+begun_more bytes c e = ap (after_bytes (none_begun st.StartRecord)) e ∙ after_bytes-append (none_begun st.StartRecord) (strip_bom bytes) (c ∷ []) ∙ after_bytes-one (begun_in bytes) c
 
 pub records_more : (bytes : List ℕ) (c : ℕ) → strip_bom (bytes ++ c ∷ []) ≡ strip_bom bytes ++ c ∷ [] → records_in (bytes ++ c ∷ []) ≡ records_in bytes ++ finished_by (begun_in bytes) c
 records_more bytes c e =
@@ -67,7 +67,7 @@ records_more bytes c e =
 
 -- a byte order mark is no part of the text
 pub begun_marked : begun_in (0xEF ∷ 0xBB ∷ 0xBF ∷ []) ≡ none_begun st.StartRecord
-unfolding strip_bom behind
+unfolding strip_bom after_bytes
 begun_marked = refl
 
 pub records_marked : records_in (0xEF ∷ 0xBB ∷ 0xBF ∷ []) ≡ records_in (0xEF ∷ 0xBB ∷ [])
@@ -87,23 +87,23 @@ pub records_grow : (bytes more : List ℕ) → (rest : List (List (List ℕ))) �
 unfolding strip_bom finished_records
 records_grow [] more = (records_in more, refl)
 records_grow (a ∷ []) [] = ([], sym (append-nil (records_in (a ∷ []))))
-records_grow (a ∷ []) (b ∷ []) = (finished_records (behind (none_begun st.StartRecord) (a ∷ [])) (b ∷ []), finished-append (none_begun st.StartRecord) (a ∷ []) (b ∷ []))
+records_grow (a ∷ []) (b ∷ []) = (finished_records (after_bytes (none_begun st.StartRecord) (a ∷ [])) (b ∷ []), finished-append (none_begun st.StartRecord) (a ∷ []) (b ∷ []))
 records_grow (a ∷ []) (b ∷ c ∷ more) = by (is_bom a b c) refl
   where
     by : (t : Bool) → is_bom a b c ≡ t → (rest : List (List (List ℕ))) × (records_in (a ∷ b ∷ c ∷ more) ≡ records_in (a ∷ []) ++ rest)
     by true e = (records_in (a ∷ b ∷ c ∷ more), ap (λ (z : List (List (List ℕ))). z ++ records_in (a ∷ b ∷ c ∷ more)) (sym (none_in_first a (mark_is a b c e).0)))
-    by false e = (finished_records (behind (none_begun st.StartRecord) (a ∷ [])) (b ∷ c ∷ more), rw e (finished-append (none_begun st.StartRecord) (a ∷ []) (b ∷ c ∷ more)))
+    by false e = (finished_records (after_bytes (none_begun st.StartRecord) (a ∷ [])) (b ∷ c ∷ more), rw e (finished-append (none_begun st.StartRecord) (a ∷ []) (b ∷ c ∷ more)))
 records_grow (a ∷ b ∷ []) [] = ([], sym (append-nil (records_in (a ∷ b ∷ []))))
 records_grow (a ∷ b ∷ []) (c ∷ more) = by (is_bom a b c) refl
   where
     by : (t : Bool) → is_bom a b c ≡ t → (rest : List (List (List ℕ))) × (records_in (a ∷ b ∷ c ∷ more) ≡ records_in (a ∷ b ∷ []) ++ rest)
     by true e = (records_in (a ∷ b ∷ c ∷ more), ap (λ (z : List (List (List ℕ))). z ++ records_in (a ∷ b ∷ c ∷ more)) (sym (none_in_second a b (mark_is a b c e).0 (mark_is a b c e).1)))
-    by false e = (finished_records (behind (none_begun st.StartRecord) (a ∷ b ∷ [])) (c ∷ more), rw e (finished-append (none_begun st.StartRecord) (a ∷ b ∷ []) (c ∷ more)))
+    by false e = (finished_records (after_bytes (none_begun st.StartRecord) (a ∷ b ∷ [])) (c ∷ more), rw e (finished-append (none_begun st.StartRecord) (a ∷ b ∷ []) (c ∷ more)))
 records_grow (a ∷ b ∷ c ∷ bytes) more = by (is_bom a b c)
   where
     by : (t : Bool) → (rest : List (List (List ℕ))) × (finished_records (none_begun st.StartRecord) (cond t (bytes ++ more) (a ∷ b ∷ c ∷ (bytes ++ more))) ≡ finished_records (none_begun st.StartRecord) (cond t bytes (a ∷ b ∷ c ∷ bytes)) ++ rest)
-    by true = (finished_records (behind (none_begun st.StartRecord) bytes) more, finished-append (none_begun st.StartRecord) bytes more)
-    by false = (finished_records (behind (none_begun st.StartRecord) (a ∷ b ∷ c ∷ bytes)) more, finished-append (none_begun st.StartRecord) (a ∷ b ∷ c ∷ bytes) more)
+    by true = (finished_records (after_bytes (none_begun st.StartRecord) bytes) more, finished-append (none_begun st.StartRecord) bytes more)
+    by false = (finished_records (after_bytes (none_begun st.StartRecord) (a ∷ b ∷ c ∷ bytes)) more, finished-append (none_begun st.StartRecord) (a ∷ b ∷ c ∷ bytes) more)
 
 -- one more byte of the text, which isn't the last of a byte order mark
 pub head_step : (h : ℕ) (before : List ℕ) (c : ℕ) → IsHead h before → (h ≡ 2 → eqb c 0xBF ≡ false) → IsHead (head_after h c) (before ++ c ∷ []) × (strip_bom (before ++ c ∷ []) ≡ strip_bom before ++ c ∷ [])

@@ -27,22 +27,22 @@ abbrev pub with_byte : Begun → ℕ → Begun
 with_byte b c = record { state = (step default_config b.state c).0; fields = fields_after (step default_config b.state c).1 b.fields b.field; field = field_after (step default_config b.state c).1 c b.field }
 
 -- the unfinished record after this byte is taken: none is begun if the byte ends it
-abbrev pub behind_byte : Begun → ℕ → Begun
-behind_byte b c = if ends b c then none_begun (with_byte b c).state else with_byte b c
+abbrev pub after_byte : Begun → ℕ → Begun
+after_byte b c = if ends b c then none_begun (with_byte b c).state else with_byte b c
 
 -- the record that this byte, taken next, finishes, as a list of one; an empty list if it finishes none
 abbrev pub finished_by : Begun → ℕ → List (List (List ℕ))
 finished_by b c = if ends b c then (with_byte b c).fields ∷ [] else []
 
 -- the unfinished record after these bytes are taken, if `b` is the one before them
-unfoldable pub behind : Begun → List ℕ → Begun
-behind b [] = b
-behind b (c ∷ cs) = behind (behind_byte b c) cs
+unfoldable pub after_bytes : Begun → List ℕ → Begun
+after_bytes b [] = b
+after_bytes b (c ∷ cs) = after_bytes (after_byte b c) cs
 
 -- the records that these bytes finish, in order, if `b` is the unfinished record before them
 unfoldable pub finished_records : Begun → List ℕ → List (List (List ℕ))
 finished_records b [] = []
-finished_records b (c ∷ cs) = finished_by b c ++ finished_records (behind_byte b c) cs
+finished_records b (c ∷ cs) = finished_by b c ++ finished_records (after_byte b c) cs
 
 -- the record that the end of the input finishes, as a list of one; an empty list if it finishes none
 abbrev pub finished_by_end : Begun → List (List (List ℕ))

@@ -12,7 +12,7 @@ use Rattle.crack_row.specs.declared.refusal.Refusal.TheVariants.{ReadFault}
 use Rattle.crack_csv.specs.declared.TheConstants.{MOST_RECORDS}
 use Rattle.crack_csv.specs.declared.load.LoadFault.{LoadFault}
 use Rattle.crack_csv.specs.Asked.{AreInsertions, IsAskedAll, IsRefusedBy}
-use Rattle.crack_csv.specs.Begun.{Begun, KeptRecord, none_begun, behind, finished_records, finished_by_end, kept_of_record}
+use Rattle.crack_csv.specs.Begun.{Begun, KeptRecord, none_begun, after_bytes, finished_records, finished_by_end, kept_of_record}
 use Rattle.crack_csv.specs.Loads.{AreInserted, IsLoaded, Refuses}
 use Rattle.crack_csv.specs.Records.{without_header, new_row_of}
 
@@ -22,7 +22,7 @@ records_in bytes = finished_records (none_begun st.StartRecord) (strip_bom bytes
 
 -- the unfinished record after these bytes, the first of a text, of which a byte order mark at their start isn't part
 abbrev pub begun_in : List ℕ → Begun
-begun_in bytes = behind (none_begun st.StartRecord) (strip_bom bytes)
+begun_in bytes = after_bytes (none_begun st.StartRecord) (strip_bom bytes)
 
 -- all records of these bytes, where the end of the input may finish the last one
 abbrev pub all_records_in : List ℕ → List (List (List ℕ))

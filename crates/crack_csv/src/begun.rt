@@ -86,7 +86,7 @@ impl BegunRecord {
         ensures kept { self.new ≡ kept_with self.old byte }
         ensures ends { result ≡ is_end (step default_config self.old.state byte).1 }
     {
-        let (place, effect) = behind(self.place, byte);
+        let (place, effect) = next_place(self.place, byte);
         self.place = place;
         match effect {
             Effect::Skip => false,
@@ -187,7 +187,7 @@ fn keep(field: &mut ArrayVec<u8, FIELD_BYTES>, byte: u8)
 /// The place that follows a byte at this place, and the byte's effect: what the `csv` crate's reader does with the
 /// byte under default settings.
 #[inline(always)]
-fn behind(place: Place, byte: u8) -> (Place, Effect)
+fn next_place(place: Place, byte: u8) -> (Place, Effect)
     ensures place { reader_state result.0 ≡ (step default_config (reader_state place) byte).0 }
     ensures effect { action_of result.1 ≡ (step default_config (reader_state place) byte).1 }
 {

@@ -9,7 +9,7 @@ use Rattle.crack_row.specs.declared.Bound.{Bound}
 use Rattle.crack_row.specs.declared.layout.PieceSize.{PieceSize}
 use Rattle.crack_row.specs.Layouts.{AreJoined, LeadTo}
 use Rattle.crack_index.specs.declared.mark.Mark.{Mark}
-use Rattle.crack_index.specs.Marks.{InOrder, Rising, Fits, bounds_of, HasBound, position_of, next_mark, last_mark, first_behind, last_before, start_of, end_of, size_between, pieces_from, with_mark, raised, lowered, lowered_at}
+use Rattle.crack_index.specs.Marks.{InOrder, Rising, Fits, bounds_of, HasBound, position_of, next_mark, last_mark, first_after, last_before, start_of, end_of, size_between, pieces_from, with_mark, raised, lowered, lowered_at}
 use Rattle.crack_index.specs.Steps.{one_up, one_down}
 
 -- the default beyond the last mark
@@ -380,7 +380,7 @@ Rising-lowered_at place marks rising = Rising-map (lowered_at place) (InOrder-lo
 
 -- a number at or above the bounds up to a place, and below those after it: its next mark is the first after the place, also
 -- once bounds at the place moved up
-pub next_mark-raised : (low place number : ℕ) (marks : List Mark) → All (λ m. m.position ≤ place → m.bound.0 ≤ number) marks → All (λ m. place < m.position → number < m.bound.0) marks → next_mark number (map (raised low place) marks) ≡ first_behind place marks
+pub next_mark-raised : (low place number : ℕ) (marks : List Mark) → All (λ m. m.position ≤ place → m.bound.0 ≤ number) marks → All (λ m. place < m.position → number < m.bound.0) marks → next_mark number (map (raised low place) marks) ≡ first_after place marks
 next_mark-raised low place number [] up_to behind = refl
 next_mark-raised low place number (m ∷ ms) up_to behind = elim (cases_lt place m.position) [
   | inl l ↦
@@ -409,15 +409,15 @@ last_mark-lowered high place number (m ∷ ms) before from = elim (cases_lt m.po
 ]
 
 -- the first mark after a place is there, also once bounds at the place moved up
-pub first_behind-kept : (low place : ℕ) (marks : List Mark) (m : Mark) → first_behind place marks ≡ Some m → Contains (map (raised low place) marks) m
-first_behind-kept low place [] m found = absurd (cc)
-first_behind-kept low place (n ∷ ns) m found = elim (cases_lt place n.position) [
+pub first_after-kept : (low place : ℕ) (marks : List Mark) (m : Mark) → first_after place marks ≡ Some m → Contains (map (raised low place) marks) m
+first_after-kept low place [] m found = absurd (cc)
+first_after-kept low place (n ∷ ns) m found = elim (cases_lt place n.position) [
   | inl l ↦
       let one : Some n ≡ Some m = rw (lt-ltb place n.position l) at found in
       let same : n ≡ m = cc in
       let stays : raised low place n ≡ n = rw (and_right (leb low n.bound.0) (eqb n.position place) (ne_eqb n.position place (λ e. absurd (omega arith)))) refl in
       (zero, omega arith, stays ∙ same)
-  | inr l ↦ Contains-behind (raised low place n) (map (raised low place) ns) m (first_behind-kept low place ns m (rw (le-ltb place n.position l) at found))
+  | inr l ↦ Contains-behind (raised low place n) (map (raised low place) ns) m (first_after-kept low place ns m (rw (le-ltb place n.position l) at found))
 ]
 
 -- the last mark before a place is there, also once bounds at the place moved down

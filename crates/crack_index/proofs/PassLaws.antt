@@ -7,7 +7,7 @@ use Rattle.std.proofs.lemmas.List.Elements.{All-head, All-tail, All-weaker, All-
 use Rattle.crack_row.specs.declared.InnerBound.{InnerBound}
 use Rattle.crack_index.specs.declared.mark.Mark.{Mark}
 use Rattle.crack_index.specs.Marks.{HasBound}
-use Rattle.crack_index.specs.Passes.{PassProgress, are_few, met, left_behind, next_few}
+use Rattle.crack_index.specs.Passes.{PassProgress, are_few, met, moved_past, next_few}
 use Rattle.crack_index.proofs.MarkLaws.{HasBound-mark}
 
 -- how a pass comes to a mark
@@ -30,7 +30,7 @@ comes len p m ms = elim (cases_lt p.after m.bound.0) [
   where
     by_size : (b : Bool) → are_few len (met m p) ms ≡ b → leb m.bound.0 p.after ≡ false → (p.bounds == 0) ≡ false → Comes len p m ms
     by_size true few ahead more = Comes.finds (rw (ahead, more, few) refl)
-    by_size false many ahead more = Comes.goes_on (left_behind m (met m p)) (rw (ahead, more, many) refl)
+    by_size false many ahead more = Comes.goes_on (moved_past m (met m p)) (rw (ahead, more, many) refl)
 
 -- what it finds is one of the bounds
 next_few-one : (P : ℕ → Type 0) (len : ℕ) (p q : PassProgress) (b : InnerBound) (ms : List Mark) → All (λ (m : Mark). P m.bound.0) ms → next_few len p ms ≡ (Some b, q) → P b.0

@@ -6,7 +6,7 @@ use Rattle.std.proofs.lemmas.Bool.{cases_lt, le-leb, lt-leb}
 use Rattle.std.proofs.lemmas.List.Elements.{All-nil, All-cons, All-head, All-tail, All-weaker}
 use Rattle.crack_index.specs.declared.mark.Mark.{Mark}
 use Rattle.crack_index.specs.Marks.{InOrder, Rising}
-use Rattle.crack_index.specs.Passes.{PassProgress, left_behind, next_few}
+use Rattle.crack_index.specs.Passes.{PassProgress, moved_past, next_few}
 use Rattle.crack_index.specs.Finds.{AreAhead, found_from, found_or}
 use Rattle.crack_index.proofs.Sides.{Rising-before, Rising-behind}
 
@@ -69,7 +69,7 @@ few_halt true len m p which = refl
 few_halt false len m p (inl halts) = absurd (cc)
 few_halt false len m p (inr few) = rw (le-leb (len - p.from) p.rows few) refl
 
-pub many_pass : (len : ℕ) (m : Mark) (p : PassProgress) → (len - p.from ≤ p.rows → false ≡ true) → found_or false len (Some m) p [] ≡ (None, left_behind m p)
+pub many_pass : (len : ℕ) (m : Mark) (p : PassProgress) → (len - p.from ≤ p.rows → false ≡ true) → found_or false len (Some m) p [] ≡ (None, moved_past m p)
 many_pass len m p many = rw (lt-leb (len - p.from) p.rows (beyond (len - p.from) p.rows many)) refl
   where
     beyond : (a b : ℕ) → (a ≤ b → false ≡ true) → b < a

@@ -9,7 +9,7 @@ use Rattle.crack_index.specs.declared.mark.Mark.{Mark}
 use Rattle.crack_index.specs.declared.tree.Edge.{Edge}
 use Rattle.crack_row.specs.declared.Bound.{Bound}
 use Rattle.crack_row.specs.declared.layout.PieceSize.{PieceSize}
-use Rattle.crack_index.specs.Marks.{pieces_from, size_between, InOrder, Rising, next_mark, last_mark, first_behind, last_before, with_mark, removed, raised, lowered_at, HasBound}
+use Rattle.crack_index.specs.Marks.{pieces_from, size_between, InOrder, Rising, next_mark, last_mark, first_after, last_before, with_mark, removed, raised, lowered_at, HasBound}
 use Rattle.std.specs.declared.alloc.Global.{Global}
 use Rattle.std.proofs.Common.{Box}
 use Rattle.crack_index.specs.Heights.{least, most}
@@ -95,18 +95,18 @@ next_mark-right number (x ∷ l) m r rising h =
     let below = (All-head (λ y. InOrder y m) x l (Rising-before (x ∷ l) m r rising)).bounds in
     rw (le-ltb number x.bound.0 (omega arith)) (next_mark-right number l m r (Rising-tail x (l ++ m ∷ r) rising) h)
 
-pub first_behind-left : (place : ℕ) (l : List Mark) (m : Mark) (r : List Mark) → place < m.position → first_behind place (l ++ m ∷ r) ≡ Some (unwrap_or (first_behind place l) m)
-first_behind-left place [] m r h = rw (lt-ltb place m.position h) refl
-first_behind-left place (x ∷ l) m r h = elim (cases_lt place x.position) [
+pub first_after-left : (place : ℕ) (l : List Mark) (m : Mark) (r : List Mark) → place < m.position → first_after place (l ++ m ∷ r) ≡ Some (unwrap_or (first_after place l) m)
+first_after-left place [] m r h = rw (lt-ltb place m.position h) refl
+first_after-left place (x ∷ l) m r h = elim (cases_lt place x.position) [
   | inl a ↦ rw (lt-ltb place x.position a) refl
-  | inr a ↦ rw (le-ltb place x.position a) (first_behind-left place l m r h)
+  | inr a ↦ rw (le-ltb place x.position a) (first_after-left place l m r h)
 ]
 
-pub first_behind-right : (place : ℕ) (l : List Mark) (m : Mark) (r : List Mark) → Rising (l ++ m ∷ r) → m.position ≤ place → first_behind place (l ++ m ∷ r) ≡ first_behind place r
-first_behind-right place [] m r rising h = rw (le-ltb place m.position h) refl
-first_behind-right place (x ∷ l) m r rising h =
+pub first_after-right : (place : ℕ) (l : List Mark) (m : Mark) (r : List Mark) → Rising (l ++ m ∷ r) → m.position ≤ place → first_after place (l ++ m ∷ r) ≡ first_after place r
+first_after-right place [] m r rising h = rw (le-ltb place m.position h) refl
+first_after-right place (x ∷ l) m r rising h =
     let below = (All-head (λ y. InOrder y m) x l (Rising-before (x ∷ l) m r rising)).positions in
-    rw (le-ltb place x.position (omega arith)) (first_behind-right place l m r (Rising-tail x (l ++ m ∷ r) rising) h)
+    rw (le-ltb place x.position (omega arith)) (first_after-right place l m r (Rising-tail x (l ++ m ∷ r) rising) h)
 
 pub last_before-right : (place : ℕ) (l : List Mark) (m : Mark) (r : List Mark) → Rising (l ++ m ∷ r) → m.position < place → last_before place (l ++ m ∷ r) ≡ Some (unwrap_or (last_before place r) m)
 last_before-right place [] m r rising h = rw (lt-ltb m.position place h) refl

@@ -6,10 +6,10 @@ use Rattle.std.proofs.lemmas.List.{map-append, reverse-reverse}
 use Rattle.std.proofs.lemmas.List.Elements.{All-nil, All-cons, All-head, All-tail}
 use Rattle.crack_index.specs.declared.mark.Mark.{Mark}
 use Rattle.crack_index.specs.declared.walk.Way.{Way}
-use Rattle.crack_index.specs.Marks.{InOrder, Rising, next_mark, last_mark, first_behind, last_before, raised, lowered}
+use Rattle.crack_index.specs.Marks.{InOrder, Rising, next_mark, last_mark, first_after, last_before, raised, lowered}
 use Rattle.crack_index.specs.Steps.{StepsUp, StepsDown, Goes, one_up, one_down}
 use Rattle.crack_index.specs.Walks.{Climbs, Descends}
-use Rattle.crack_index.proofs.MarkLaws.{Rising-raised, Rising-lowered, next_mark-is, last_mark-is, first_behind-kept, last_before-kept}
+use Rattle.crack_index.proofs.MarkLaws.{Rising-raised, Rising-lowered, next_mark-is, last_mark-is, first_after-kept, last_before-kept}
 use Rattle.crack_index.proofs.MarkLemmas.{map_same, raised_below, raised_apart, raised_at, lowered_above, lowered_apart, lowered_same}
 use Rattle.crack_index.proofs.Sides.{Rising-before, Rising-behind, last_mark-right, last_before-right}
 use Rattle.crack_index.proofs.WalkLemmas.{Goes-over, up-over, down-over, reverse-more, All-unreverse}
@@ -20,9 +20,9 @@ next_mark-past : (number : ℕ) (low rest : List Mark) → All (λ m. m.bound.0 
 next_mark-past number [] rest all = refl
 next_mark-past number (m ∷ ms) rest all = rw (le-ltb number m.bound.0 (All-head (λ x. x.bound.0 ≤ number) m ms all)) (next_mark-past number ms rest (All-tail (λ x. x.bound.0 ≤ number) m ms all))
 
-first_behind-past : (place : ℕ) (low rest : List Mark) → All (λ m. m.position ≤ place) low → first_behind place (low ++ rest) ≡ first_behind place rest
-first_behind-past place [] rest all = refl
-first_behind-past place (m ∷ ms) rest all = rw (le-ltb place m.position (All-head (λ x. x.position ≤ place) m ms all)) (first_behind-past place ms rest (All-tail (λ x. x.position ≤ place) m ms all))
+first_after-past : (place : ℕ) (low rest : List Mark) → All (λ m. m.position ≤ place) low → first_after place (low ++ rest) ≡ first_after place rest
+first_after-past place [] rest all = refl
+first_after-past place (m ∷ ms) rest all = rw (le-ltb place m.position (All-head (λ x. x.position ≤ place) m ms all)) (first_after-past place ms rest (All-tail (λ x. x.position ≤ place) m ms all))
 
 All-push : (P : Mark → Type 0) (xs : List Mark) (m : Mark) → All P xs → P m → All P (xs ++ m ∷ [])
 All-push P [] m all one = All-cons P m [] one (All-nil P)
@@ -38,8 +38,8 @@ up-upto : (new : List Mark) (m : Mark) (ns : List Mark) → Rising (new ++ m ∷
 up-upto new m ns rising = All-push (λ x. x.position ≤ m.position) new m (λ k d h. (Rising-before new m ns rising k d h).positions) (omega arith)
 
 -- the first bound after those that moved, and what they are then
-up-found : (at : Mark) (old : List Mark) (m : Mark) (ns : List Mark) → All (λ n. n.position ≤ at.position) old → at.position < m.position → first_behind at.position (old ++ m ∷ ns) ≡ Some m
-up-found at old m ns upto past = first_behind-past at.position old (m ∷ ns) upto ∙ (rw (lt-ltb at.position m.position past) refl)
+up-found : (at : Mark) (old : List Mark) (m : Mark) (ns : List Mark) → All (λ n. n.position ≤ at.position) old → at.position < m.position → first_after at.position (old ++ m ∷ ns) ≡ Some m
+up-found at old m ns upto past = first_after-past at.position old (m ∷ ns) upto ∙ (rw (lt-ltb at.position m.position past) refl)
 
 up-moved : (at : Mark) (old new : List Mark) (m : Mark) (ns : List Mark) → Rising (old ++ m ∷ ns) → new ≡ map (raised at.bound.0 at.position) old → at.position < m.position → map (raised at.bound.0 at.position) (old ++ m ∷ ns) ≡ new ++ m ∷ ns
 up-moved at old new m ns rising is past =
@@ -55,9 +55,9 @@ module _ {V : Type 0} (visits : V → ℕ → Bool → V → Type 0) (number : �
   -- where bounds moved: the first of them, the marks that were passed, and the same marks afterwards
   up-level : (at : Mark) (old new rest rest' : List Mark) (a b : Way) (u v : V) → Rising (old ++ rest) → All (λ n. n.position ≤ at.position) old → All (InOrder at) rest → new ≡ map (raised at.bound.0 at.position) old
       → number < at.bound.0 → a.ended ≡ None → a.last ≡ at.position → Goes (StepsUp visits number) rest a u rest' b v
-      → Climbs visits (first_behind at.position (old ++ rest)) (map (raised at.bound.0 at.position) (old ++ rest)) u b.ended (new ++ rest') v
+      → Climbs visits (first_after at.position (old ++ rest)) (map (raised at.bound.0 at.position) (old ++ rest)) u b.ended (new ++ rest') v
   up-level at old new rest rest' a b u v rising upto after is above going last (Goes.here way x) =
-      rw (first_behind-past at.position old [] upto, map-append (raised at.bound.0 at.position) old [], is, going) (Climbs.ends (map (raised at.bound.0 at.position) old ++ []) x)
+      rw (first_after-past at.position old [] upto, map-append (raised at.bound.0 at.position) old [], is, going) (Climbs.ends (map (raised at.bound.0 at.position) old ++ []) x)
   up-level at old new rest rest' a b u v rising upto after is above going last (Goes.more n n' ns ns' d e c x y z (StepsUp.apart m way o below) onward) = absurd (omega (arith, (All-head (InOrder at) m ns after).bounds))
   up-level at old new rest rest' a b u v rising upto after is above going last (Goes.more n n' ns ns' d e c x y z (StepsUp.over m f way o ended) onward) = absurd (let both : Some f ≡ None = sym ended ∙ going in cc)
   up-level at old new rest rest' a b u v rising upto after is above going last (Goes.more n n' ns ns' d e c x y z (StepsUp.along m way o higher opened here) onward) =
@@ -219,7 +219,7 @@ climbs-there : {V : Type 0} (visits : V → ℕ → Bool → V → Type 0) (o : 
 climbs-there visits o marks v last marks' w (Climbs.ends ms x) there m is = absurd (cc)
 climbs-there visits o marks v last marks' w (Climbs.stops n ms x y told) there m is = there m is
 climbs-there visits o marks v last marks' w (Climbs.goes_on n l ms ms' x y z told rest) there m is =
-    climbs-there visits (first_behind n.position ms) (map (raised n.bound.0 n.position) ms) y l ms' z rest (λ k e. first_behind-kept n.bound.0 n.position ms k e) m is
+    climbs-there visits (first_after n.position ms) (map (raised n.bound.0 n.position) ms) y l ms' z rest (λ k e. first_after-kept n.bound.0 n.position ms k e) m is
 
 descends-there : {V : Type 0} (visits : V → ℕ → Bool → V → Type 0) (o : Option Mark) (marks : List Mark) (v : V) (last : Option Mark) (marks' : List Mark) (w : V) → Descends visits o marks v last marks' w → ((m : Mark) → o ≡ Some m → Contains marks m) → (m : Mark) → last ≡ Some m → Contains marks' m
 descends-there visits o marks v last marks' w (Descends.ends ms x) there m is = absurd (cc)

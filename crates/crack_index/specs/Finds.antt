@@ -5,7 +5,7 @@ use Rattle.std.specs.Prelude.{ℕ, Bool, cond, List, All, ◌<◌, IfSome, Optio
 use Rattle.std.specs.Option.{option_map}
 use Rattle.crack_row.specs.declared.InnerBound.{InnerBound}
 use Rattle.crack_index.specs.declared.mark.Mark.{Mark}
-use Rattle.crack_index.specs.Passes.{PassProgress, are_few, left_behind, next_few}
+use Rattle.crack_index.specs.Passes.{PassProgress, are_few, moved_past, next_few}
 
 -- if `last` is a mark, the bounds of all marks in `ms` are above `p.after`, the number up to which the pass met bounds
 abbrev pub AreAhead : Option Mark → PassProgress → List Mark → Type 0
@@ -15,7 +15,7 @@ AreAhead last p ms = IfSome last (λ _. All (λ (m : Mark). p.after < m.bound.0)
 -- whose two pieces hold few rows together, its bound is found. Otherwise the pass goes on to `ms`, as `next_few` says
 abbrev pub found_from : ℕ → Option Mark → PassProgress → List Mark → Option InnerBound × PassProgress
 found_from len None p ms = next_few len p ms
-found_from len (Some m) p ms = cond (are_few len p ms) (Some m.bound, p) (next_few len (left_behind m p) ms)
+found_from len (Some m) p ms = cond (are_few len p ms) (Some m.bound, p) (next_few len (moved_past m p) ms)
 
 -- the result of a pass that has halted, and the pass, unchanged: the bound of `last`, which it has found, or `None` if
 -- it may meet no more bounds

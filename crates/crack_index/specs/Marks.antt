@@ -50,9 +50,9 @@ last_mark number [] = None
 last_mark number (m ∷ ms) = cond (nat_le m.bound.0 number) (Some (unwrap_or (last_mark number ms) m)) None
 
 -- the first mark whose place is after the given place, or `None` if there is none
-abbrev pub first_behind : ℕ → List Mark → Option Mark
-first_behind place [] = None
-first_behind place (m ∷ ms) = cond (nat_lt place m.position) (Some m) (first_behind place ms)
+abbrev pub first_after : ℕ → List Mark → Option Mark
+first_after place [] = None
+first_after place (m ∷ ms) = cond (nat_lt place m.position) (Some m) (first_after place ms)
 
 -- the last mark whose place is before the given place, or `None` if there is none
 abbrev pub last_before : ℕ → List Mark → Option Mark

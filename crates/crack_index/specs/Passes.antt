@@ -30,20 +30,20 @@ abbrev pub are_few : ℕ → PassProgress → List Mark → Bool
 are_few len p ms = nat_le (first_place len ms - p.from) p.rows
 
 -- the pass after it met the mark's bound: `after` is this bound, and it may meet one bound fewer. `from` is unchanged:
--- `left_behind` sets it, unless the bound is found
+-- `moved_past` sets it, unless the bound is found
 abbrev pub met : Mark → PassProgress → PassProgress
 met m p = record p { after = m.bound.0; bounds = p.bounds - 1 }
 
 -- the pass when the mark's bound, which it met last, isn't found: the piece below the next bound begins at the mark
-abbrev pub left_behind : Mark → PassProgress → PassProgress
-left_behind m p = record p { from = m.position }
+abbrev pub moved_past : Mark → PassProgress → PassProgress
+moved_past m p = record p { from = m.position }
 
 -- the next bound that the pass finds, and the pass then. The pass skips the marks that it met before, and meets the
 -- others in turn. It finds the first one whose two pieces hold few rows together (`are_few`), or `None` if no mark is
 -- left or if it may meet no more
 abbrev pub next_few : ℕ → PassProgress → List Mark → Option InnerBound × PassProgress
 next_few len p [] = (None, p)
-next_few len p (m ∷ ms) = cond (nat_le m.bound.0 p.after) (next_few len p ms) (cond (p.bounds == 0) (None, p) (cond (are_few len (met m p) ms) (Some m.bound, met m p) (next_few len (left_behind m (met m p)) ms)))
+next_few len p (m ∷ ms) = cond (nat_le m.bound.0 p.after) (next_few len p ms) (cond (p.bounds == 0) (None, p) (cond (are_few len (met m p) ms) (Some m.bound, met m p) (next_few len (moved_past m (met m p)) ms)))
 
 -- if the pass may meet no more bounds, the number up to which it met them, `after`; otherwise `None`
 abbrev pub stopped_at : PassProgress → Option ℕ

@@ -2,7 +2,7 @@
 -- returns whether the walk goes on.
 use Rattle.std.specs.Prelude.{◌≡◌, ℕ, ◌-◌, ◌<◌, Bool, true, false, List, map, Option, Some, None}
 use Rattle.crack_index.specs.declared.mark.Mark.{Mark}
-use Rattle.crack_index.specs.Marks.{first_behind, last_before, raised, lowered}
+use Rattle.crack_index.specs.Marks.{first_after, last_before, raised, lowered}
 
 -- a walk up. In this order: the mark where it begins, if any, all marks and the visitor before the walk, the mark
 -- where it ends, if any, and all marks and the visitor after the walk. `visits` relates the visitor before a visit,
@@ -14,7 +14,7 @@ pub data Climbs {V : Type 0} (visits : V → ℕ → Bool → V → Type 0) : Op
   stops : (m : Mark) (marks : List Mark) (v w : V) → visits v m.position false w → Climbs visits (Some m) marks v (Some m) marks w
   -- the visitor lets the walk go on: this bound and the higher bounds at its place move up by one, and the first
   -- mark after that place is next
-  goes_on : (m : Mark) (last : Option Mark) (marks marks' : List Mark) (v w x : V) → visits v m.position true w → Climbs visits (first_behind m.position marks) (map (raised m.bound.0 m.position) marks) w last marks' x → Climbs visits (Some m) marks v last marks' x
+  goes_on : (m : Mark) (last : Option Mark) (marks marks' : List Mark) (v w x : V) → visits v m.position true w → Climbs visits (first_after m.position marks) (map (raised m.bound.0 m.position) marks) w last marks' x → Climbs visits (Some m) marks v last marks' x
 
 -- like `Climbs`, for a walk down: the visitor is called with the place right before a bound; there is none before a
 -- bound at the place 0, which ends the walk

@@ -6,7 +6,7 @@ ghost use Rattle.crack_index.specs.Heights.{least, most};
 ghost use Rattle.crack_index.specs.Walks.{Climbs, Descends};
 ghost use Rattle.crack_index.specs.Raises.{Raises};
 ghost use Rattle.crack_index.specs.Places.{Places};
-ghost use Rattle.crack_index.specs.Marks.{Rising, Fits, HasBound, position_of, next_mark, last_mark, first_behind};
+ghost use Rattle.crack_index.specs.Marks.{Rising, Fits, HasBound, position_of, next_mark, last_mark, first_after};
 ghost use Rattle.crack_index.specs.Marks.{with_mark, removed, raised, lowered_at, piece_at, pieces_from};
 ghost use Rattle.crack_index.specs.Passes.{pass_above, next_few};
 
@@ -256,13 +256,13 @@ impl CrackerIndex {
         requires there { Contains self.old.marks mark }
         requires small { mark.position < usize.MAX }
         ensures marks { self.new.marks ≡ map (raised mark.bound.0 mark.position) self.old.marks }
-        ensures next { result ≡ first_behind mark.position self.old.marks }
+        ensures next { result ≡ first_after mark.position self.old.marks }
         ensures there { IfSome result (λ m. Contains self.new.marks m) }
         ensures room { self.new.room ≡ self.old.room }
         ensures rising { Rising self.new.marks }
     {
         let Mark { bound, position } = mark;
-        let next = tree::first_behind(&self.root, position);
+        let next = tree::first_after(&self.root, position);
         tree::raise(&mut self.root, bound.number(), position);
         next
     }

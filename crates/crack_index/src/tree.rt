@@ -2,7 +2,7 @@
 //! passes its nodes in. Look-ups and moves of marks take no memory.
 ghost use Rattle.std.specs.Prelude.{◌≡◌, ◌+◌, ◌-◌, ◌^◌, ◌<◌, ◌≤◌, max, length, [], ◌∷◌, ◌++◌, map, List, ℕ, vec_len};
 ghost use Rattle.std.specs.Prelude.{vec_capacity, OnOk, IfOk, IfErr};
-ghost use Rattle.crack_index.specs.Marks.{Rising, with_mark, last_mark, next_mark, first_behind, raised};
+ghost use Rattle.crack_index.specs.Marks.{Rising, with_mark, last_mark, next_mark, first_after, raised};
 ghost use Rattle.crack_index.specs.Marks.{lowered_at, removed, size_between, pieces_from};
 ghost use Rattle.crack_index.specs.Keeps.{height_of, IsBalanced, IsTall, DifferByAtMost};
 ghost use Rattle.crack_index.specs.Trees.{Grown, marks_in_tree};
@@ -168,8 +168,8 @@ pub(crate) fn neighbours(link: &MarkTree, number: KeyNumber) -> (Option<Mark>, O
 }
 
 /// The first mark that is at a place after `place`, if there is one. O(log marks), one comparison per level.
-pub(crate) fn first_behind(link: &MarkTree, place: usize) -> Option<Mark>
-    ensures { result ≡ first_behind place (marks_in_tree link.now) }
+pub(crate) fn first_after(link: &MarkTree, place: usize) -> Option<Mark>
+    ensures { result ≡ first_after place (marks_in_tree link.now) }
 {
     let mut found = None;
     let mut here = link;

@@ -10,7 +10,7 @@ use Rattle.crack_row.specs.declared.command.Policy.{Policy}
 use Rattle.crack_row.specs.declared.command.Policy.TheVariants.{Auto, Complete, Gradual, Ripple}
 use Rattle.crack_index.specs.declared.mark.Mark.{Mark}
 use Rattle.crack_index.specs.Marks.{SomeMarks, removed}
-use Rattle.crack_index.specs.Passes.{PassProgress, are_few, met, left_behind, next_few, stopped_at}
+use Rattle.crack_index.specs.Passes.{PassProgress, are_few, met, moved_past, next_few, stopped_at}
 use Rattle.crack_index.specs.Sums.{joined_below}
 use Rattle.crack_index.proofs.RemoveLaws.{SomeMarks-all}
 use Rattle.crack_state.specs.State.{State}
@@ -46,7 +46,7 @@ comes len p m ms = elim (cases_lt p.after m.bound.0) [
   where
     by_size : (b : Bool) → are_few len (met m p) ms ≡ b → p.after < m.bound.0 → leb m.bound.0 p.after ≡ false → (p.bounds == 0) ≡ false → Comes len p m ms
     by_size true few ahead above more = Comes.finds ahead (rw (above, more, few) refl) (rw (above, more, few) refl) (rw (above, more, few) refl) (λ es. rw (above, more, few) refl)
-    by_size false many ahead above more = Comes.goes_on (left_behind m (met m p)) (omega arith) (omega arith) (rw (above, more, many) refl) (rw (above, more, many) refl) (rw (above, more, many) refl) (λ es. rw (above, more, many) refl)
+    by_size false many ahead above more = Comes.goes_on (moved_past m (met m p)) (omega arith) (omega arith) (rw (above, more, many) refl) (rw (above, more, many) refl) (rw (above, more, many) refl) (λ es. rw (above, more, many) refl)
 
 -- the bound that it finds is above those that it has met, and then it has met that one
 found-above : (len : ℕ) (p q : PassProgress) (b : InnerBound) (ms : List Mark) → next_few len p ms ≡ (Some b, q) → (p.after < b.0) × (q.after ≡ b.0)

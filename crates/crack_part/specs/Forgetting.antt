@@ -12,7 +12,7 @@ use Rattle.crack_row.specs.declared.command.Command.{Command}
 use Rattle.crack_row.specs.declared.command.Policy.{Policy}
 use Rattle.crack_row.specs.declared.command.Policy.TheVariants.{Complete, Auto}
 use Rattle.crack_index.specs.declared.mark.Mark.{Mark}
-use Rattle.crack_index.specs.Passes.{PassProgress, pass_above, are_few, met, left_behind, stopped_at}
+use Rattle.crack_index.specs.Passes.{PassProgress, pass_above, are_few, met, moved_past, stopped_at}
 use Rattle.crack_index.specs.Sums.{joined_below}
 use Rattle.crack_state.specs.State.{State, greatest}
 use Rattle.crack_state.specs.Steps.{SameButRoom}
@@ -51,18 +51,18 @@ due_by policy passes s = None
 -- at most `p.rows` rows together. All other marks remain.
 abbrev pub left_by_pass : ℕ → PassProgress → List Mark → List Mark
 left_by_pass len p [] = []
-left_by_pass len p (m ∷ ms) = cond (nat_le m.bound.0 p.after) (m ∷ left_by_pass len p ms) (cond (p.bounds == 0) (m ∷ ms) (cond (are_few len (met m p) ms) (left_by_pass len (met m p) ms) (m ∷ left_by_pass len (left_behind m (met m p)) ms)))
+left_by_pass len p (m ∷ ms) = cond (nat_le m.bound.0 p.after) (m ∷ left_by_pass len p ms) (cond (p.bounds == 0) (m ∷ ms) (cond (are_few len (met m p) ms) (left_by_pass len (met m p) ms) (m ∷ left_by_pass len (moved_past m (met m p)) ms)))
 
 -- the last state of a pass that goes on from the state `p` over these marks, in a column of `len` rows
 abbrev pub ended_pass : ℕ → PassProgress → List Mark → PassProgress
 ended_pass len p [] = p
-ended_pass len p (m ∷ ms) = cond (nat_le m.bound.0 p.after) (ended_pass len p ms) (cond (p.bounds == 0) p (cond (are_few len (met m p) ms) (ended_pass len (met m p) ms) (ended_pass len (left_behind m (met m p)) ms)))
+ended_pass len p (m ∷ ms) = cond (nat_le m.bound.0 p.after) (ended_pass len p ms) (cond (p.bounds == 0) p (cond (are_few len (met m p) ms) (ended_pass len (met m p) ms) (ended_pass len (moved_past m (met m p)) ms)))
 
 -- the known sums `es` after a pass that goes on from the state `p` over these marks, in a column of `len` rows: for
 -- each bound that the pass forgets, lowest first, the two pieces beside it are joined (`joined_below`)
 abbrev pub joined_by : ℕ → PassProgress → List Mark → List (ℕ × ℤ) → List (ℕ × ℤ)
 joined_by len p [] es = es
-joined_by len p (m ∷ ms) es = cond (nat_le m.bound.0 p.after) (joined_by len p ms es) (cond (p.bounds == 0) es (cond (are_few len (met m p) ms) (joined_by len (met m p) ms (joined_below m.bound.0 es)) (joined_by len (left_behind m (met m p)) ms es)))
+joined_by len p (m ∷ ms) es = cond (nat_le m.bound.0 p.after) (joined_by len p ms es) (cond (p.bounds == 0) es (cond (are_few len (met m p) ms) (joined_by len (met m p) ms (joined_below m.bound.0 es)) (joined_by len (moved_past m (met m p)) ms es)))
 
 -- the first state of a pass over a store's bounds above a key: the pass may meet 512 of them, and forgets those whose
 -- two pieces have at most 1,024 rows together

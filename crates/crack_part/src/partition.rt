@@ -237,8 +237,8 @@ impl Partition {
     /// Without upkeep, an insert is O(1), amortised, and a delete or an update O(log pieces). A command that reads a
     /// range cracks the pieces in which its ends fall, and merges what the range needs by the policy. A count is then
     /// O(log pieces). So is a sum, with a step for each row of the pieces whose sum isn't known. A select is O(m log
-    /// m) for m rows in the range; it is O(m) if there are at most 8 cells for each of these rows, and serials rise
-    /// with the numbers of the cells.
+    /// m) for m rows in the range. If there are at most 8 cells for each of these rows, and the serials of k of them,
+    /// at most a quarter, are out of the order of the cells' numbers, it is O(m + k log k).
     #[inline(always)]
     pub fn apply(&mut self, command: Command, policy: Policy) -> Result<Reply, Refusal>
         ensures reply { IfOk result (λ reply. reply ≡ reply_to (state_of self.old) command) }

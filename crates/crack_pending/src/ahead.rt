@@ -126,7 +126,7 @@ impl Ahead {
         ensures from { self.new.from ≡ start }
     {
         self.from = start;
-        self.next = first_behind(&self.candidates, self.next, start);
+        self.next = first_after(&self.candidates, self.next, start);
     }
 
     /// If all candidates were passed, drops them, and searches the codes from where the search ended for further ones;
@@ -185,7 +185,7 @@ impl Ahead {
 
 /// The position in the list, from `next` on, of the first candidate at or after `start`, or the list's end if there is
 /// none.
-fn first_behind(candidates: &[usize], next: usize, start: usize) -> usize
+fn first_after(candidates: &[usize], next: usize, start: usize) -> usize
     ensures after { next ≤ result }
     ensures passed { (k : ℕ) → next ≤ k → k < result → slice_index candidates.now k < start }
     ensures reached { result < length candidates.now → start ≤ slice_index candidates.now result }

@@ -72,7 +72,7 @@ pub(crate) fn spot_noted(
 
 /// The spot, at or after `from`, of the row whose handle names the cell with this number, or `None` if there is
 /// none. O(1) for each spot from `from` on.
-fn spot_behind(tags: &TagList, stands: &[bool], from: usize, slot: u32) -> Option<usize>
+fn later_spot(tags: &TagList, stands: &[bool], from: usize, slot: u32) -> Option<usize>
     requires beside { length stands.now ≡ length tags.now.handles }
     ensures { MatchOption result (IsNotBehind tags.now.handles stands.now slot from) (λ spot. IsSpotWith
         tags.now.handles stands.now slot spot) }
@@ -101,6 +101,6 @@ pub(crate) fn spot_sought(
 {
     match spot_with(tags, stands, spots, slot) {
         Some(spot) => Some(spot),
-        None => spot_behind(tags, stands, noted, slot),
+        None => later_spot(tags, stands, noted, slot),
     }
 }

@@ -6,7 +6,7 @@ use Rattle.std.proofs.lemmas.List.{length-map, get_or-map, get_or_default}
 use Rattle.crack_arena.specs.Arena.{Handle}
 use Rattle.crack_arena.specs.Rows.{key_at}
 use Rattle.crack_index.specs.declared.mark.Mark.{Mark}
-use Rattle.crack_index.specs.Marks.{next_mark, last_mark, first_behind, last_before}
+use Rattle.crack_index.specs.Marks.{next_mark, last_mark, first_after, last_before}
 use Rattle.crack_index.proofs.MarkLaws.{last_mark-is, next_mark-raised, last_mark-lowered}
 use Rattle.crack_state.specs.State.{State, Carried, IsIntact}
 use Rattle.crack_state.proofs.Words.{column_keys}
@@ -19,7 +19,7 @@ key_there s place hand within =
     get_or-map (key_at s.cells) s.column place (get_or s.column place hand) 0 within ∙ ap (key_at s.cells) (sym (get_or_default s.column place hand (get_or s.column place hand) within))
 
 -- after a push_on, the bound above the key in hand is the first that was after the place where the hand was put
-pub next-pushed_on : (c : Carried) (m : Mark) → next_mark (hand_key c) c.store.marks ≡ Some m → m.position < length c.store.column → IsIntact c.store (c.hand ∷ []) → next_mark (hand_key (pushed_on c)) (pushed_on c).store.marks ≡ first_behind m.position c.store.marks
+pub next-pushed_on : (c : Carried) (m : Mark) → next_mark (hand_key c) c.store.marks ≡ Some m → m.position < length c.store.column → IsIntact c.store (c.hand ∷ []) → next_mark (hand_key (pushed_on c)) (pushed_on c).store.marks ≡ first_after m.position c.store.marks
 next-pushed_on c m found within intact =
     let s = c.store in
     let at = key_there s m.position c.hand within in

@@ -3,7 +3,7 @@ use Rattle.std.proofs.Common.{◌≡◌, ℕ, ◌<◌, ◌^◌, ◌-◌, ◌∷�
 use Rattle.std.specs.Prelude.{Contains, IfSome}
 use Rattle.std.proofs.lemmas.List.Elements.{All-contains}
 use Rattle.crack_index.specs.declared.mark.Mark.{Mark}
-use Rattle.crack_index.specs.Marks.{next_mark, last_mark, first_behind, last_before, raised, lowered}
+use Rattle.crack_index.specs.Marks.{next_mark, last_mark, first_after, last_before, raised, lowered}
 use Rattle.crack_index.proofs.MarkLaws.{next_mark-is, last_mark-is}
 use Rattle.crack_arena.specs.Arena.{Handle}
 use Rattle.crack_state.specs.State.{State, Carried, IsIntact}
@@ -24,7 +24,7 @@ pub record IsUp (c : Carried) (m : Mark) : Type 0 where
   pub within : m.position < length c.store.column
   pub after : put_at m.position (map (raised m.bound.0 m.position) c.store.marks) (record c.store.tally { moved = more c.store.tally.moved }) c ≡ pushed_on c
   pub intact : IsIntact (pushed_on c).store ((pushed_on c).hand ∷ [])
-  pub next : next_mark (hand_key (pushed_on c)) (pushed_on c).store.marks ≡ first_behind m.position c.store.marks
+  pub next : next_mark (hand_key (pushed_on c)) (pushed_on c).store.marks ≡ first_after m.position c.store.marks
   pub nearer : bounds_above (hand_key (pushed_on c)) (pushed_on c).store.marks < bounds_above (hand_key c) c.store.marks
 
 pub is_up : (c : Carried) (m : Mark) → next_mark (hand_key c) c.store.marks ≡ Some m → piece_end c.store (hand_key c) < length c.store.column → IsIntact c.store (c.hand ∷ []) → IsUp c m

@@ -5,7 +5,7 @@ use Rattle.crack_row.specs.declared.Bound.{Bound}
 use Rattle.crack_arena.specs.Memories.{Memory, Agrees}
 use Rattle.crack_column.specs.Column.{first_aside}
 use Rattle.crack_index.specs.declared.mark.Mark.{Mark}
-use Rattle.crack_index.specs.Marks.{Index, next_mark, last_mark, first_behind, last_before, raised, lowered, start_of}
+use Rattle.crack_index.specs.Marks.{Index, next_mark, last_mark, first_after, last_before, raised, lowered, start_of}
 use Rattle.crack_index.specs.Walks.{Climbs, Descends}
 use Rattle.crack_state.specs.State.{Carried, IsIntact}
 use Rattle.crack_state.specs.Steps.{hand_key, piece_start, piece_end, IsDoomed, pushed_on, pulled_back, bounds_above, ceiling_of, IsBelow, PushesOn, PullsBack}
@@ -44,7 +44,7 @@ pub record IsClimbed (p : Inside) (ceiling : Option Bound) (c : Carried) (last :
 pub record IsTaken (p : Inside) (ceiling : Option Bound) (m : Mark) (marks : List Mark) (v w : Ascent) : Type 0 where
   pub is : carried_of (climbing p w (map (raised m.bound.0 m.position) marks)) ≡ pushed_on (carried_of (climbing p v marks))
   pub has : HasHand (climbing p w (map (raised m.bound.0 m.position) marks))
-  pub next : next_mark (hand_key (carried_of (climbing p w (map (raised m.bound.0 m.position) marks)))) (map (raised m.bound.0 m.position) marks) ≡ first_behind m.position marks
+  pub next : next_mark (hand_key (carried_of (climbing p w (map (raised m.bound.0 m.position) marks)))) (map (raised m.bound.0 m.position) marks) ≡ first_after m.position marks
   pub lasting : ¬ IsDoomed (carried_of (climbing p v marks))
   pub below : IsBelow (ceiling_of ceiling) (hand_key (carried_of (climbing p v marks)))
   pub room : piece_end (carried_of (climbing p v marks)).store (hand_key (carried_of (climbing p v marks))) < length v.column.handles
@@ -55,7 +55,7 @@ taken p m marks v w out has next takes =
     let c : Carried = carried_of q in
     let room : piece_end c.store (hand_key c) < length c.store.column = rw next takes.within in
     let up = is_up c m next room has.kept.intact in
-    let behind = first_behind m.position marks in
+    let behind = first_after m.position marks in
     let near = Above behind in
     let made : IsMade (climbing p w (map (raised m.bound.0 m.position) marks)) near (pushed_on c) = exchanged_to q w.column (record p.index { marks = map (raised m.bound.0 m.position) marks }) p.notes (record p.tally { moved = w.moved }) m.position near (pushed_on c) has takes.column takes.within (rw takes.moved up.after) up.intact (sym up.next) in
     record {
@@ -74,7 +74,7 @@ climbed p ceiling o last marks marks' v w (Climbs.stops m ms x y is) out same ha
 climbed p ceiling o last marks marks' v w (Climbs.goes_on m l ms ms' x y z takes rest) out same has next =
     let c : Carried = carried_of (climbing p x ms) in
     let up = taken p m ms x y out has next takes in
-    let on = climbed p ceiling (first_behind m.position ms) l (map (raised m.bound.0 m.position) ms) ms' y z rest (rw takes.pending_out out) (takes.ceiling ∙ same) up.has up.next in
+    let on = climbed p ceiling (first_after m.position ms) l (map (raised m.bound.0 m.position) ms) ms' y z rest (rw takes.pending_out out) (takes.ceiling ∙ same) up.has up.next in
     record {
       has = on.has;
       next = on.next;

@@ -102,6 +102,7 @@ impl Found {
         self.order = Order::Nearly;
         let above = self.above(row.serial.0);
         if above == MOST_ABOVE {
+            // A `push` here would keep the compiler from inlining the one in `add`, which runs for each row.
             self.aside.extend_from_slice(&[row])?;
             return Ok(true);
         }

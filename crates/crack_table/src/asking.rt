@@ -21,7 +21,7 @@ use crack_witness::{Naming, Witnessed, Worker};
 /// `Worker::ask`, which may be a refusal. Sets `checkpointed` to how many commands a checkpoint added to the base, if
 /// one was made first because the history was full; otherwise to 0. Refused with `GateGaveUp` if the gate refuses
 /// `GATE_TURNS` times: then worker and partition are unchanged.
-pub(crate) fn ask_behind<J: Naming, G: Gate>(
+pub(crate) fn ask_gated<J: Naming, G: Gate>(
     gate: &G,
     worker: &mut Worker<J>,
     part: u32,

@@ -6,7 +6,7 @@ ghost use Rattle.crack_witness.specs.Witnesses.{OwnersDiffer};
 ghost use Rattle.crack_table.specs.Asking.{AsksTable};
 ghost use Rattle.crack_table.specs.Tables.{AnswersAt, LooksAt, MeasuresAt};
 
-use crate::asking::{ask_behind, with_table_limit};
+use crate::asking::{ask_gated, with_table_limit};
 use crate::gate::{Gate, note_due_checkpoint};
 use crack_plain::Statistics;
 use crack_row::{Bound, Command, Layout, Limits, Policy, Refusal, Reply};
@@ -110,7 +110,7 @@ impl<J: Naming> Table<J> {
         };
         let mut witnessed = lock.lock(rt);
         let mut checkpointed = 0;
-        let answered = ask_behind(
+        let answered = ask_gated(
             gate,
             worker,
             part,

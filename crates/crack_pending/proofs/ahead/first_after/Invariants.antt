@@ -1,6 +1,6 @@
 use Rattle.std.proofs.Common.{ℕ, ◌-◌, ◌<◌, ◌≤◌, length}
 use Rattle.std.specs.Prelude.{slice_index}
-use Rattle.crack_pending.proofs.ahead.first_behind.Given as goal
+use Rattle.crack_pending.proofs.ahead.first_after.Given as goal
 
 abbrev pub invariant-passed : goal.invariant-passed
 invariant-passed l = record {
