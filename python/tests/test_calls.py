@@ -6,6 +6,7 @@ import contextlib
 import ctypes
 import itertools
 import os
+import sys
 import threading
 import time
 import unittest
@@ -33,6 +34,41 @@ def standing_in(**calls):
             standing = (lambda call, real: lambda *words: call(real, *words))(call, real)
             stack.enter_context(mock.patch.object(loaded, name, standing))
         yield loaded
+
+
+def others_run_during(name, call):
+    """Whether another thread runs during a function of the library, which `call` calls.
+
+    Calls it up to 20 times, since the system may not wake a thread while the function runs once.
+    """
+    steps, meanwhile, is_over = [0], [], threading.Event()
+
+    def run():
+        while not is_over.is_set():
+            steps[0] += 1
+            time.sleep(1e-6)
+
+    def noting(real, *words):
+        before = steps[0]
+        code = real(*words)
+        meanwhile.append(steps[0] - before)
+        return code
+
+    thread, interval = threading.Thread(target=run), sys.getswitchinterval()
+    # the interpreter itself lets no thread run between the lines of `noting`
+    sys.setswitchinterval(3600)
+    thread.start()
+    try:
+        with standing_in(**{name: noting}):
+            for _ in range(20):
+                call()
+                if any(meanwhile):
+                    return True
+        return False
+    finally:
+        is_over.set()
+        thread.join()
+        sys.setswitchinterval(interval)
 
 
 class Watch:

@@ -4,20 +4,16 @@ import _ctypes
 import contextlib
 import random
 import resource
-import sys
 import threading
-import time
 import unittest
 from unittest import mock
 
-from test_calls import standing_in
+from test_calls import others_run_during, standing_in
 from ways import InProcess, InShards, crackd, wants_library, wants_shards
 
 from crackd import library, local
 
 ROWS, LOOK, LONG = 1000, 10, "long_"
-# how long the interpreter lets one thread run in a test of what releases its lock
-SECONDS = 120
 # the functions of single calls, which hold the lock, and those that release it
 NAMES = [*library.SINGLE, *(LONG + it for it in library.SINGLE)]
 
@@ -170,34 +166,13 @@ class Which(InProcess, unittest.TestCase):
             self.assertRaises(crackd.Closed, table.insert, 1, 1)
 
     def test_other_threads_run_during_a_long_call(self):
-        steps, meanwhile, is_over = [0], [], threading.Event()
+        with self.table() as table:
 
-        def run():
-            while not is_over.is_set():
-                steps[0] += 1
-                time.sleep(1e-6)
+            def call():
+                table.insert_many(range(400_000), [1] * 400_000)
+                self.assertEqual(table.sum(), len(table))
 
-        def long_sum(real, *words):
-            before = steps[0]
-            code = real(*words)
-            meanwhile.append(steps[0] - before)
-            return code
-
-        # the interpreter itself lets no thread run between these lines
-        self.addCleanup(sys.setswitchinterval, sys.getswitchinterval())
-        sys.setswitchinterval(SECONDS)
-        with self.table() as table, standing_in(long_sum=long_sum):
-            thread = threading.Thread(target=run)
-            thread.start()
-            try:
-                # a call takes a few milliseconds, in which the system may not wake the thread
-                while not any(meanwhile) and len(table) < 8_000_000:
-                    table.insert_many(range(400_000), [1] * 400_000)
-                    self.assertEqual(table.sum(), len(table))
-            finally:
-                is_over.set()
-                thread.join()
-        self.assertTrue(any(meanwhile), meanwhile)
+            self.assertTrue(others_run_during("long_sum", call))
 
 
 class Threads:

@@ -8,6 +8,7 @@ import threading
 import time
 import unittest
 
+from test_calls import others_run_during
 from ways import InProcess, InShards, OverTcp, crackd, wants_library, wants_program, wants_shards
 
 THREADS, STEPS = 8, 100
@@ -84,31 +85,11 @@ class SharingInProcess(Sharing, InProcess, unittest.TestCase):
     """In the process."""
 
     def test_other_threads_run_meanwhile(self):
-        steps, is_over = [0], threading.Event()
-
-        def run():
-            while not is_over.is_set():
-                steps[0] += 1
-
-        keys = [it * 7919 % 300_000 for it in range(300_000)]
+        keys = [it * 7919 % 100_000 for it in range(100_000)]
         with crackd.Table() as table:
-            thread = threading.Thread(target=run)
-            thread.start()
-            try:
-                numbers = table._keys.many(keys)
-                before = steps[0]
-                table._insert_many(
-                    numbers,
-                    numbers.view("int64")
-                    if hasattr(numbers, "view")
-                    else crackd.arrays.from_ints("q", keys, "payloads"),
-                )
-                table.settle()
-                meanwhile = steps[0] - before
-            finally:
-                is_over.set()
-                thread.join()
-        self.assertGreater(meanwhile, 1000)
+            self.assertTrue(others_run_during("insert_many", lambda: table.insert_many(keys, keys)))
+            self.assertTrue(others_run_during("delete_many", lambda: table.delete_many(table.insert_many(keys, keys))))
+            self.assertTrue(others_run_during("select", table.select))
 
     def test_single_updates_and_deletes_take_about_as_long_as_inserts(self):
         def seconds(call, words):
