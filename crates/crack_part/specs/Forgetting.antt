@@ -3,7 +3,7 @@
 -- and forgets some. The record of passes says where the last one stopped and how many rows merges had moved by then. A
 -- step takes it from `passes` to `after`, and the store from `s` to `t`. `r` is the range that is read, `keys` are the
 -- partition's keys, and the optional range after them is the command's.
-use Rattle.std.specs.Prelude.{◌≡◌, ◌⊎◌, ℕ, ℤ, Bool, true, ◌+◌, ◌-◌, ◌*◌, ◌/◌, ◌<◌, ◌≤◌, ◌==◌, ◌&&◌, nat_le, nat_lt, min, cond, List, [], ◌∷◌, length, Option, Some, None}
+use Rattle.std.specs.Prelude.{◌≡◌, ◌⊎◌, ℕ, ℤ, Bool, true, ◌+◌, ◌-◌, ◌*◌, ◌/◌, ◌<◌, ◌≤◌, ◌==◌, ◌&&◌, nat_le, nat_lt, min, max, cond, List, [], ◌∷◌, length, Option, Some, None}
 use Rattle.std.specs.Option.{option_map, option_or}
 use Rattle.crack_row.specs.Commands.{change_of, range_of}
 use Rattle.crack_row.specs.Ranges.{Range, clipped}
@@ -18,7 +18,7 @@ use Rattle.crack_state.specs.State.{State, greatest}
 use Rattle.crack_state.specs.Steps.{SameButRoom}
 use Rattle.crack_part.specs.KnownSums.{Known}
 use Rattle.crack_part.specs.Parts.{is_merged_first, CracksAndMerges, ReadiesAnd, StopsAt, Performs}
-use Rattle.crack_part.specs.declared.coarsening.TheConstants.{FEW_ROWS, MOST_BOUNDS}
+use Rattle.crack_part.specs.declared.coarsening.TheConstants.{BOUNDS_TO_ONE_MET, FEW_ROWS, LEAST_MET}
 use Rattle.crack_part.specs.declared.passes.Passes.{Passes}
 use Rattle.crack_part.specs.declared.passes.TheConstants.{FEW_BOUNDS, MANY_BOUNDS, MOVES_OF_A_BOUND, ROWS_OF_A_BOUND}
 
@@ -36,8 +36,9 @@ abbrev pub are_dear : ℕ → State → Bool
 are_dear moves s = cond (are_many s) (nat_lt 0 moves) (nat_le (length s.marks * MOVES_OF_A_BOUND) moves)
 
 -- The key above which a pass over the bounds is due; none if no pass is due. With at most 64 bounds none is due. With
--- more, the key is the one at which the last pass stopped after its 512 bounds. If it met fewer, or there was no pass,
--- the key is 0 if `are_dear` is true of the rows that merges have moved and pulled since; else no pass is due.
+-- more, the key is the one at which the last pass stopped because it had met `most_met` bounds. If it met fewer, or
+-- there was no pass, the key is 0 if `are_dear` is true of the rows that merges have moved and pulled since; else no
+-- pass is due.
 abbrev pub due_after : Passes → State → Option Key
 due_after passes s = cond (nat_le (length s.marks) FEW_BOUNDS) None (option_or passes.stopped (cond (are_dear (moves_of s - passes.counted) s) (Some (record { 0 = 0 })) None))
 
@@ -64,10 +65,14 @@ abbrev pub joined_by : ℕ → PassProgress → List Mark → List (ℕ × ℤ) 
 joined_by len p [] es = es
 joined_by len p (m ∷ ms) es = cond (nat_le m.bound.0 p.after) (joined_by len p ms es) (cond (p.bounds == 0) es (cond (are_few len (met m p) ms) (joined_by len (met m p) ms (joined_below m.bound.0 es)) (joined_by len (moved_past m (met m p)) ms es)))
 
--- the first state of a pass over a store's bounds above a key: the pass may meet 512 of them, and forgets those whose
--- two pieces have at most 1,024 rows together
+-- the most bounds that a pass meets if there are this many: one of 128, but at least 32
+abbrev pub most_met : ℕ → ℕ
+most_met bounds = max (bounds / BOUNDS_TO_ONE_MET) LEAST_MET
+
+-- the first state of a pass over a store's bounds above a key: the pass may meet `most_met` of them, and forgets those
+-- whose two pieces have at most 1,024 rows together
 abbrev pub pass_of : Key → State → PassProgress
-pass_of key s = pass_above key.0 FEW_ROWS MOST_BOUNDS s.marks
+pass_of key s = pass_above key.0 FEW_ROWS (most_met (length s.marks)) s.marks
 
 -- a store after a pass over its bounds above a key: of its marks only those remain that the pass doesn't forget
 -- (`left_by_pass`, from `pass_of`), and nothing else changes; the same store if there is no key
@@ -82,7 +87,7 @@ known_after None s known = known
 known_after (Some key) s known = record known { pieces = joined_by (length s.column) (pass_of key s) s.marks known.pieces }
 
 -- the record of passes after a pass over the bounds of the store `s` above a key: how many rows merges had moved and
--- pulled by then, and the last bound met if the pass met 512, else `None`; the same record if there is no key
+-- pulled by then, and the last bound met if the pass met `most_met`, else `None`; the same record if there is no key
 abbrev pub noted : Option Key → State → Passes → Passes
 noted None s passes = passes
 noted (Some key) s passes = record {

@@ -2,16 +2,19 @@ use Rattle.std.proofs.Common.{length, refl, ap, ◌∙◌, arith}
 use Rattle.crack_index.proofs.RemoveLaws.{length-removed}
 use Rattle.crack_state.specs.State.{State}
 use Rattle.crack_part.proofs.ForgetLaws.{IsOnWay-start, IsOnWay-found, IsOnWay-end, JoinsOnWay-start, JoinsOnWay-found, JoinsOnWay-end, Known-joined, noted-end}
+use Rattle.crack_index.specs.Passes.{pass_above}
 use Rattle.crack_part.specs.KnownSums.{Known}
+use Rattle.crack_part.specs.declared.coarsening.TheConstants.{FEW_ROWS}
 use Rattle.crack_part.proofs.coarsening.forget_after.Goals as goal
 
 pub bounds-init : goal.bounds-init
-bounds-init c = record {
-  on = IsOnWay-start c.args.key c.args.store.now c.pass_after-pass.result c.pass_after-pass.ensures;
-  joins = JoinsOnWay-start c.args.key c.args.store.now c.pass_after-pass.result c.args.known.now.pieces c.pass_after-pass.ensures;
-  since = refl;
-  knows = λ plain knows. knows;
-}
+bounds-init c =
+    let first = c.pass_after-pass.ensures ∙ ap (λ n. pass_above c.args.key.0 FEW_ROWS n c.args.store.now.marks) c.most_met.ensures in record {
+      on = IsOnWay-start c.args.key c.args.store.now c.pass_after-pass.result first;
+      joins = JoinsOnWay-start c.args.key c.args.store.now c.pass_after-pass.result c.args.known.now.pieces first;
+      since = refl;
+      knows = λ plain knows. knows;
+    }
 
 pub bounds-smaller : goal.bounds-smaller
 bounds-smaller c =
