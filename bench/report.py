@@ -494,11 +494,10 @@ lists. Of 1,000 sums with 10 deletes and 10 inserts before each, moving rows pas
 `ripple` and `auto`, where cracks take a third; deletes take 6 to 14 %, and inserts 2 % at most (compiled without a proof, with its checks removed).
 
 Over TCP beside a Redis sorted set, one partition and four workers (`bench/run.py --once latency crowds`): one client beside three that send three requests at a
-time waits 0.20 to 0.24 ms at the 99th percentile of each request, with Redis 0.19 to 0.20; at the 99.9th 0.49 to 0.55 ms, with Redis 0.23 to 0.24 (1 December
-2026, while the host was slow). While it was quiet these were 0.12 to 0.15 and 0.24 to 0.34, with Redis 0.09 to 0.11 and 0.13 to 0.16; and 0.62 to 0.86 at the
-99.9th while a pass over the bounds met 512 of them, which each of the four clients waited for (compiled without a proof). With one worker the 99.9th is 0.20 to
-0.22. Of 1,000 clients with one request each in flight it is 72 to 96 ms, with Redis 66 to 77; of 10,000 clients 386 to 696 ms, with Redis 753 to 1,027 (30
-November 2026). A request takes one `recvfrom` and one `sendto`. The rest is the wait for a processor and for the partition's lock: with 1,000 clients `strace`
+time waits 0.12 to 0.14 ms at the 99th percentile of each request, with Redis 0.10; at the 99.9th 0.28 to 0.36 ms, with Redis 0.15 to 0.16 (1 December 2026).
+While the host was slow these were 0.49 to 0.55 and 0.23 to 0.24. Compiled without a proof, the 99.9th is 0.24 to 0.34, with one worker 0.20 to 0.22; it was 0.62 to
+0.86 while a pass over the bounds met 512 of them, for which all four clients waited. Of 1,000 clients with one request each in flight it is 72 to 96 ms, with
+Redis 66 to 77; of 10,000 clients 386 to 696 ms, with Redis 753 to 1,027 (30 November 2026). A request takes one `recvfrom` and one `sendto`. The rest is the wait for a processor and for the partition's lock: with 1,000 clients `strace`
 counts 12,356 calls of `futex` for 22,013 requests. Over 64 partitions 1,000 clients get 100,000 to 109,000 replies a second; they got 59,000 to 75,000 before threads left connections to others.
 
 ## Loading, with the first count of everything
