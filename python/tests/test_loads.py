@@ -10,7 +10,7 @@ from test_calls import standing_in
 from test_table import numbers
 from ways import InShards, crackd, np, wants_shards
 
-from crackd import local, progress
+from crackd import local, placed, progress
 
 KEYS = 1000
 
@@ -86,6 +86,21 @@ class Loads(InShards, unittest.TestCase):
         if isinstance(made, crackd.Table):
             made.close()
         return None
+
+    def test_of_several_refusals_the_earliest_row_s_is_raised(self):
+        codes = [9, 8]
+
+        class Refusing:
+            cuts = [10]
+
+            def place_many(self, keys, payloads, placed):
+                raise crackd.errors.refused(codes.pop(0), 0)
+
+        # the second row is refused first, since its partition is the first
+        keys = np.array([20, 5], np.uint64)
+        with self.assertRaises(crackd.Refused) as caught:
+            local.Load(Refusing(), 2).insert(keys, keys.view(np.int64), placed.Placed(2))
+        self.assertEqual((caught.exception.code, caught.exception.done, codes), (8, 0, []))
 
     def test_the_library_gets_one_partition_after_the_other(self):
         calls = []
