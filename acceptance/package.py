@@ -1,8 +1,8 @@
 """Runs the tests of the Python package, over a server of the program and in the process: package.py PROGRAM
 
 They run with an interpreter that has numpy and Dask, or else numpy, if there is one: this one, or that of the system.
-Prints what unittest prints, and last 'package: N passed, M failed'. Skipped tests are printed with the reason, and not
-counted.
+Prints what is skipped with the reason, all that unittest prints if anything failed, and last 'N passed, M failed', with
+', K skipped' after it if anything was.
 """
 
 import functools
@@ -15,7 +15,7 @@ import sys
 PACKAGE = pathlib.Path(__file__).resolve().parent.parent / "python"
 INTERPRETERS = [sys.executable, "/usr/bin/python3"]
 MODULES = ["numpy, pandas, dask.dataframe, distributed", "numpy"]
-COUNTED = re.compile(r"^(\d+) passed, (\d+) failed, \d+ skipped$", re.MULTILINE)
+COUNTED = re.compile(r"^(\d+) passed, (\d+) failed, (\d+) skipped$", re.MULTILINE)
 SKIPPED = re.compile(r"^(\w+) .*\.\.\. skipped (.*)$", re.MULTILINE)
 SECONDS = 1800
 
@@ -38,18 +38,19 @@ def start(program: str | pathlib.Path) -> subprocess.Popen:
     return subprocess.Popen(command, stderr=subprocess.STDOUT, text=True, errors="replace", **how)
 
 
-def sums(started: subprocess.Popen) -> tuple[int, int]:
-    """How many passed, and how many failed, once they have ended. A run that fails without a count is one failure."""
+def sums(started: subprocess.Popen) -> tuple[int, int, int]:
+    """How many passed, failed and were skipped, once they have ended. A run that fails without a count is one
+    failure."""
     output, _ = started.communicate()
     counted = COUNTED.findall(output)
-    passed, failed = map(int, counted[-1]) if counted else (0, 0)
+    passed, failed, skipped = map(int, counted[-1]) if counted else (0, 0, 0)
     failed = failed if failed or (counted and started.returncode == 0) else 1
     for name, why in SKIPPED.findall(output):
         print(f"package: {name} skipped, since {why}")
     if failed:
         print(output)
-    print(f"package: {passed} passed, {failed} failed", flush=True)
-    return passed, failed
+    print(f"package: {passed} passed, {failed} failed" + (f", {skipped} skipped" if skipped else ""), flush=True)
+    return passed, failed, skipped
 
 
 if __name__ == "__main__":

@@ -1,4 +1,8 @@
-"""Runs the checks that unittest finds, in parallel: first those that take one processor, then the heavy ones."""
+"""Runs the checks that unittest finds, in parallel: first those that take one processor, then the heavy ones.
+
+With CRACKD_TESTS=all in the environment each check goes as far as it can, otherwise extent.py draws what is tried. The
+last line is the sum, 'N passed, M failed', with ', K skipped' after it if anything was.
+"""
 
 import collections
 import concurrent.futures
@@ -6,9 +10,11 @@ import os
 import typing
 import unittest
 
+import extent
+
 FOLDER = os.path.dirname(os.path.abspath(__file__))
 # the modules whose checks take longest, which are started first
-LONGEST = ("test_memory", "test_server_memory")
+LONGEST = ("test_memory", "test_server_memory", "test_units")
 
 
 def flat(suite: unittest.TestSuite) -> typing.Iterator[unittest.TestCase]:
@@ -34,22 +40,25 @@ def outcomes(checks: list[unittest.TestCase]) -> typing.Iterator[tuple[str, str,
             yield from pool.map(outcome, names)
 
 
-def run_all() -> tuple[int, int]:
-    """Runs all checks. Returns how many passed, and how many failed."""
+def run_all() -> tuple[int, int, int]:
+    """Runs all checks. Returns how many passed, how many failed, and how many were skipped."""
     suite = unittest.TestLoader().discover(FOLDER, top_level_dir=FOLDER)
-    passed, failed = collections.Counter(), collections.Counter()
+    passed, failed, left = collections.Counter(), collections.Counter(), 0
     for name, wrong, skipped in outcomes(list(flat(suite))):
         if wrong or skipped:
             print(f"{name} FAILED\n{wrong}" if wrong else f"{name} skipped, since {skipped}", flush=True)
         module = name.split(".")[0].removeprefix("test_")
         passed[module] += not wrong and not skipped
         failed[module] += bool(wrong)
+        left += bool(skipped and not wrong)
     for module in sorted(passed):
         print(f"{module}: {passed[module]} passed, {failed[module]} failed", flush=True)
-    return passed.total(), failed.total()
+    return passed.total(), failed.total(), left
 
 
 if __name__ == "__main__":
-    ended = run_all()
-    print(f"{ended[0]} passed, {ended[1]} failed")
-    raise SystemExit(1 if ended[1] else 0)
+    if not extent.IS_WHOLE:
+        print(f"checks: a part, drawn from the seed {extent.SEED} (CRACKD_SEED={extent.SEED} draws the same)", flush=True)
+    all_passed, all_failed, all_skipped = run_all()
+    print(f"{all_passed} passed, {all_failed} failed" + (f", {all_skipped} skipped" if all_skipped else ""))
+    raise SystemExit(1 if all_failed else 0)

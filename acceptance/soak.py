@@ -18,6 +18,9 @@ import sys
 import time
 import typing
 
+# a soak tries everything
+os.environ["CRACKD_TESTS"] = "all"
+
 import crowds
 import fixtures
 import ordered_script

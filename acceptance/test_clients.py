@@ -25,6 +25,7 @@ import threading
 import time
 import typing
 
+import extent
 import fixtures
 from client_rows import Account, Own, come_to
 from compare import check_totals
@@ -329,7 +330,7 @@ LIMITS_OF_AN_HOUR = Limits(1000, 2000, is_automatic=True)
 # how many steady clients there are, how many rows each keeps, how many statements it sends at a time, into how many
 # steps it divides its keys, and how many statements there are in all
 STEADY, ROWS, AT_ONCE, STEPS = 48, 20, 50, 8
-SHORT, WHOLE = 60_000, 3_600_000
+SHORT, WHOLE = extent.fewer(60_000, 20_000), 3_600_000
 BEFORE = [it for it in KINDS[1:] if it.visit not in (pipelines, reads_nothing)]
 OFTEN = {"insert": 34, "delete": 16, "update": 12, "count": 20, "sum": 10, "select": 7, "any": 1}
 CHECKPOINTS = re.compile(r"crackd: (?:checkpoint|(\d+) checkpoints, the last) of partition (\d+): (\d+) entries")
@@ -338,7 +339,7 @@ TOLD = 1000
 CUT_OFF = re.compile(r"crackd: client 127\.0\.0\.1:\d+: session cut off: refused (?:17|18): .*")
 ENDED = re.compile(r"crackd: ended: sessions (\d+), cut off (\d+)")
 # the length of histories, and after how many commands the memory is read: a thirtieth of what bench/ measures
-LIMIT, FEW, MANY = 2_184, 100_000, 1_000_000
+LIMIT, FEW, MANY = 2_184, 100_000, extent.fewer(1_000_000, 400_000)
 
 
 class Peak(threading.Thread):
@@ -607,5 +608,6 @@ class Clients(fixtures.Case):
         self.assertGreaterEqual(taken[1] - taken[0], 0.98 * (80 + 96) * FEW)
 
 
-for name, how in [*STORMS.items(), *((name, HONEST | it) for name, it in SMALL.items())]:
+STORMS_TRIED = extent.some(STORMS.items(), 2, "storms") + extent.some(SMALL.items(), 2, "small storms")
+for name, how in ((name, HONEST | it if name in SMALL else it) for name, it in STORMS_TRIED):
     fixtures.add(Clients, name, Clients.run_storm, how)

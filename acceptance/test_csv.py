@@ -3,6 +3,7 @@
 import random
 import typing
 
+import extent
 import fixtures
 import random_script
 import run_cases
@@ -105,5 +106,5 @@ class Csv(fixtures.Case):
             check_input(self.program, MARK + b"key,payload\n1,2\n", piece=piece)
 
 
-fixtures.add_seeds(Csv, range(1, 21), check)
-fixtures.add_seeds(Csv, range(101, 121), check_pieces)
+fixtures.add_seeds(Csv, extent.seeds(range(1, 21), 4, "csv"), check)
+fixtures.add_seeds(Csv, extent.seeds(range(101, 121), 4, "pieces"), check_pieces)

@@ -11,6 +11,7 @@ import signal
 import subprocess
 import tempfile
 
+import extent
 import fixtures
 import plain_session
 import random_script
@@ -63,7 +64,7 @@ class Devices(fixtures.Case):
     def test_a_file_that_is_full_behind_each_byte(self) -> None:
         """What a file takes of a session, a batch and an export is a prefix of their text, whatever its size."""
         for one in SUBCOMMANDS:
-            for size in range(len(one[2]) + 1):
+            for size in extent.some(range(len(one[2]) + 1), 20, one[0]):
                 check_file(self.program, *one, size)
 
     def test_a_terminal_that_hangs_up(self) -> None:
@@ -81,4 +82,4 @@ class Devices(fixtures.Case):
                 self.assertIn((status, complaints.read()), right)
 
 
-fixtures.add_seeds(Devices, range(1, 5), check)
+fixtures.add_seeds(Devices, extent.seeds(range(1, 5), 1, "devices"), check)

@@ -20,6 +20,7 @@ import re
 import typing
 import unittest
 
+import extent
 import fixtures
 from fixtures import Wrong, built, expect, ran
 from plain_session import MOST_ENTRIES, POLICIES, Limits, Session, read_line
@@ -280,4 +281,4 @@ for head, texts in fixtures.sections("histories.txt").items():
     for it in altered:
         what, _, other = HEAD.match(f"{it}\n").groups()
         fixtures.add(Texts, f"{name}, {what}", Texts.assert_found, f"{right.strip()}\n", it, asked, other or bounds)
-fixtures.add_seeds(Histories, SEEDS, check_seed)
+fixtures.add_seeds(Histories, extent.seeds(SEEDS, 2, "histories"), check_seed)

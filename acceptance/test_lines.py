@@ -9,6 +9,7 @@ import random
 import re
 import sys
 
+import extent
 import fixtures
 import ordered_script
 import random_script
@@ -134,7 +135,7 @@ class Lines(fixtures.Case):
     def test_each_line_on_a_fresh_table(self) -> None:
         """Each line at the limits of words is the whole input, alone, and followed by a question for all rows."""
         lines = [line for it in run_cases.all_cases("words") for line in it.given.split(b"\n")[:-1]]
-        for it in lines:
+        for it in extent.some(lines, 60, "lines"):
             for end in [b"\n", ASKED]:
                 self.assert_answered(it + end)
         for it in [b"insert 1 1".ljust(200) + b"\r\n", b"\r", b"checkpoint 0"]:
@@ -144,7 +145,7 @@ class Lines(fixtures.Case):
         """Statements are cut after each byte: each breaks off or ends a session there, and all are one session."""
         whole = run_cases.inputs("statements")
         cuts = [it[:size] for it in whole for size in range(len(it) + 1)]
-        for cut in cuts:
+        for cut in extent.some(cuts, 60, "cuts"):
             for end in [b"", b"\r"]:
                 self.assert_answered(b"insert 7 70\n" + cut + end)
         rest = [it[size:] for it in whole for size in range(len(it) + 1)]
@@ -180,10 +181,10 @@ class RandomScripts(fixtures.Case):
             fixtures.expect("for_ever.py", (0, wanted + last, b""), fixtures.ran(command, given + more))
 
 
-fixtures.add_seeds(Lines, range(1, 21), check)
+fixtures.add_seeds(Lines, extent.seeds(range(1, 21), 4, "lines"), check)
 class OrderedScripts(fixtures.Case):
     """A script for each seed of ordered_script.py."""
 
 
-fixtures.add_seeds(OrderedScripts, ordered_script.SEEDS, ordered_script.check)
-fixtures.add_seeds(RandomScripts, random_script.SEEDS, random_script.check)
+fixtures.add_seeds(OrderedScripts, extent.seeds(ordered_script.SEEDS, 2, "ordered scripts"), ordered_script.check)
+fixtures.add_seeds(RandomScripts, extent.seeds(random_script.SEEDS, 6, "random scripts"), random_script.check)

@@ -21,9 +21,11 @@ import socket
 import subprocess
 import typing
 
+import extent
 import fixtures
 import random_script
 import run_cases
+import test_units
 from compare import SHORT, Seen, check_totals, compare
 from fixtures import CRATES, Wrong, expect, refusing
 from plain_session import POLICIES, Limits, Part, Session, bounds_of, statements
@@ -35,6 +37,8 @@ CHANCES, ONE_IN = 40, 50
 REFUSED = b"crackd: refused 8\n"
 # how many seeds there are of each kind
 RANDOM_SWEEPS, WORKER_SWEEPS = 4, 2
+# and how many scripts, each in one way under one policy, where not all is tried
+FEW_SCRIPTS = 60
 # runs that write one text: their command lines, and their input
 RECORDS = b"key,payload\n" + b"".join(b'%d,"%d"\n' % (key, key % 7 - 3) for key in range(0, 400, 9))
 TEXTS = {"csv": (["csv", "100", "200"], RECORDS), "help": (["script", "--help"], b"")}
@@ -66,19 +70,21 @@ def with_layouts(given: bytes, after: bytes = b"\n") -> bytes:
     return given.replace(after, after + b"layout 0\n")
 
 
-def sweep(way: str, once: typing.Callable[[dict[str, int]], int]) -> None:
+def sweep(way: str, once: typing.Callable[[dict[str, int]], int], *names: object) -> None:
     """Refuses calls in one way, number by number, until a run has none that is refused; by chance there are this many
-    runs.
+    runs. Where not all is tried, numbers are left out, drawn by these names.
 
     A run is given which calls are refused, and returns how many were.
     """
-    for number in range(1, CHANCES + 1 if way == "chance" else FOR_EVER):
+    number, drawn = 1, extent.numbers(way, *names)
+    while number <= (CHANCES if way == "chance" else FOR_EVER):
         try:
             refused = once(WAYS[way](number))
         except (Wrong, subprocess.TimeoutExpired) as error:
             raise Wrong(f"{way} {number}: {error}") from error
         if not refused and way != "chance":
             return
+        number = extent.after(number, drawn)
 
 
 def run_once(program: str, words: list, given: bytes, check: Check, which: dict[str, int], text: bytes = b"") -> int:
@@ -99,7 +105,7 @@ def run_once(program: str, words: list, given: bytes, check: Check, which: dict[
 
 def sweep_runs(program: str, words: list, given: bytes, check: Check, way: str, text: bytes = b"") -> None:
     """Sweeps in one way over runs that a function checks."""
-    sweep(way, lambda which: run_once(program, words, given, check, which, text))
+    sweep(way, lambda which: run_once(program, words, given, check, which, text), words, given)
 
 
 def check_layouts(said: list, seen: Seen, whole: Seen) -> None:
@@ -257,7 +263,7 @@ def sweep_server(program: str, way: str, seed: int) -> None:
         check_served(texts, got, ended, refused)
         return refused
 
-    sweep(way, once)
+    sweep(way, once, seed)
 
 
 def sweeps_of(crates: pathlib.Path) -> typing.Iterator[tuple[str, str]]:
@@ -291,14 +297,14 @@ class Refused(Sweeps):
 
 
 class Tests(Sweeps):
-    """Sweeps over the tests named sweep_.. in the test programs that the gate has built."""
+    """Sweeps over the tests named sweep_.. in the test programs that tools/tests.py builds."""
 
     def test_there_are_sweeps(self) -> None:
         self.assertTrue(list(sweeps_of(CRATES)))
 
     def sweep(self, crate: str, name: str) -> None:
         """Refuses each call of a test alone."""
-        built = CRATES / crate / "out" / crate.replace("_tests", "_tests_tests")
+        built = test_units.test_program(crate)
         if not built.exists():
             self.skipTest(f"the tests of {crate} aren't built")
 
@@ -308,7 +314,7 @@ class Tests(Sweeps):
                 expect(f"status, where {b''.join(wrote)[-300:]!r} was written", 0, status)
                 return counted()[1]
 
-        sweep("alone", once)
+        sweep("alone", once, crate, name)
 
 
 def add(check: typing.Callable, *given: object, kind: str = "") -> None:
@@ -319,13 +325,13 @@ def add(check: typing.Callable, *given: object, kind: str = "") -> None:
 
 for crate, name in sweeps_of(CRATES):
     fixtures.add(Tests, f"{crate} {name}", Tests.sweep, crate, name)
+for given in extent.some(itertools.product(WAYS, POLICIES, scripts()), FEW_SCRIPTS, "scripts"):
+    add(check_script, *given)
 for way in WAYS:
-    for policy, name in itertools.product(POLICIES, scripts()):
-        add(check_script, way, policy, name)
     for name in TEXTS:
         add(check_text, way, name)
-    for seed in range(1, RANDOM_SWEEPS + 1):
+    for seed in extent.seeds(range(1, RANDOM_SWEEPS + 1), 1, f"scripts {way}"):
         add(check_random, way, seed, kind="script of seed")
-for way, seed in itertools.product(WORKER_WAYS, range(1, WORKER_SWEEPS + 1)):
+for way, seed in itertools.product(WORKER_WAYS, extent.seeds(range(1, WORKER_SWEEPS + 1), 1, "workers")):
     add(sweep_batch, way, seed, kind="batch of seed")
     add(sweep_server, way, seed, kind="server of seed")

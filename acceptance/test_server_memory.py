@@ -11,6 +11,7 @@ import itertools
 import time
 import typing
 
+import extent
 import fixtures
 import test_memory
 from compare import SHORT, Seen, check_totals, take
@@ -27,6 +28,8 @@ KEYS = [5, 2**62 - 5, 2**62 + 5, 2**63 - 5, 2**63 + 5, MOST - 5]
 ROWS, LISTINGS, UNREAD, FEW_BYTES, REST = 1000, 3, 100, 4096, 0.02
 # how many calls after the first one are refused as well; and in how many checks
 WAYS, SHARES = {"alone": 0, "four": 3}, 4
+# and how many calls of a share, where not all are tried
+FEW = 8
 Counted = typing.Callable[[], tuple[int, int]]
 
 
@@ -165,7 +168,8 @@ def sweep(program: str, way: str, first: int) -> None:
     """Refuses calls that come after the server listens: each alone, or four in a row, of one of these shares."""
     most, step = WAYS[way], SHARES * (WAYS[way] + 1)
     before, calls, _ = run_once(program, {"from": FOR_EVER, "to": FOR_EVER})
-    for number in range(before + 1 + first * (most + 1), calls + 1, step):
+    numbers = range(before + 1 + first * (most + 1), calls + 1, step)
+    for number in extent.some(numbers, FEW, way, first):
         try:
             run_once(program, {"from": number, "to": number + most})
         except FAULTS as error:
