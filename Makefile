@@ -1,4 +1,4 @@
-.PHONY: help run try program-unproved lib lib-unproved test edits trust
+.PHONY: help run try program-unproved lib lib-unproved test prove edits trust
 
 # the minutes that these took on 4 processors, each after the one before it; the edits in two parts
 RUN_MINUTES = 47
@@ -39,8 +39,15 @@ lib:
 lib-unproved:
 	@python3 tools/build.py library-unproved
 
+# until the runner of the tests is there, its parts one after the other
 test:
-	@.ci/run tests
+	@if test -e tools/tests.py; then python3 tools/tests.py; else \
+	python3 acceptance/run_cases.py crates/crackd/out/crackd && python3 acceptance/run_checks.py && \
+	python3 acceptance/package.py crates/crackd/out/crackd && python3 tools/test_tools.py; fi
+
+prove:
+	@python3 tools/prove.py crackd crackd_c
+	@python3 tools/build.py
 
 edits:
 	@python3 tools/edits.py $(OF)

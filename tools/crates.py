@@ -11,16 +11,20 @@ import sys
 
 TOP = pathlib.Path(__file__).resolve().parent.parent
 PARTS = ("src", "specs", "proofs")
+# the line of crates.txt after which no crate is proved begins so
+NOT_PROVED = "\n# not proved"
 
 
 @dataclasses.dataclass(frozen=True)
 class Crate:
-    """A crate: its name, its line in crates.txt, and the names of the crates and of the toolchain's libraries there."""
+    """A crate: its name, its line in crates.txt, the names of the crates and of the toolchain's libraries there, and
+    whether it is proved, as all that users run is."""
 
     name: str
     line: str
     uses: tuple
     of_kit: tuple
+    is_proved: bool = True
 
     @property
     def folder(self):
@@ -66,10 +70,16 @@ def parsed(text):
 @functools.lru_cache(maxsize=None)
 def listed():
     """All crates by name, in the order of crates.txt, where each comes after those that it uses."""
-    lines = parsed(read(TOP / "crates.txt"))
+    text = read(TOP / "crates.txt")
+    lines, proved = parsed(text), parsed(text.partition(NOT_PROVED)[0])
     own = lambda words: tuple(it for it in words if it in lines)
     of_kit = lambda words: ("std", *(it for it in words if it not in lines))
-    return {name: Crate(name, line, own(words), of_kit(words)) for name, (line, words) in lines.items()}
+    return {it: Crate(it, line, own(words), of_kit(words), it in proved) for it, (line, words) in lines.items()}
+
+
+def proved():
+    """The crates that are proved: all that users run."""
+    return [it for it in listed().values() if it.is_proved]
 
 
 @functools.lru_cache(maxsize=None)
@@ -115,11 +125,31 @@ def rattle_words(verb, crate, library=lambda crate: crate.library):
     return words + (["--crate-type", "staticlib"] if crate.is_static else [])
 
 
+def sum_of_texts(texts):
+    return hashlib.sha256("\n".join(texts).encode()).hexdigest()
+
+
+@functools.lru_cache(maxsize=None)
+def own_sum(name):
+    """A sum of a crate's line and files."""
+    crate = listed()[name]
+    of_file = lambda it: f"{it.relative_to(crate.folder)} {hashlib.sha256(it.read_bytes()).hexdigest()}"
+    return sum_of_texts([crate.line, *map(of_file, crate.sources())])
+
+
+def kit_sum():
+    """A sum of the line that names the toolchain."""
+    return sum_of_texts([read(kit("KIT-ID"))])
+
+
 @functools.lru_cache(maxsize=None)
 def sum_of(name):
     """A sum of all that a crate's proof depends on: the toolchain, its line and its files, and the same for the crates
     below it."""
-    crate = listed()[name]
-    told = [kit("KIT-ID").read_text(), crate.line, *map(sum_of, crate.uses)]
-    told += [f"{it.relative_to(crate.folder)} {hashlib.sha256(it.read_bytes()).hexdigest()}" for it in crate.sources()]
-    return hashlib.sha256("\n".join(told).encode()).hexdigest()
+    return sum_of_texts([kit_sum(), own_sum(name), *map(sum_of, listed()[name].uses)])
+
+
+def forget_sums():
+    """Has the sums of files that may have changed taken again."""
+    own_sum.cache_clear()
+    sum_of.cache_clear()

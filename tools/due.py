@@ -1,4 +1,7 @@
-"""Finds the must-fail edits that are due: those of crates that changed since all were tried, and a tenth of the others.
+"""Finds the must-fail edits that are due: those that wait since an earlier run had no time for them, those of crates
+that changed since a commit whose edits were tried, and a tenth of the others.
+
+tools/edits-tried names that commit in its first line, and in the lines below it the edits that wait.
 
 A crate has changed if its own text has changed (sources, definitions or proofs), or what a crate below it states: its
 definitions, its types, its functions' contracts, and the statements of its laws. Bodies of functions, proofs of laws,
@@ -62,10 +65,16 @@ def changed_crates(before):
     return found
 
 
-def since(tried):
-    """The commit that a file names, if it is an ancestor of this one."""
-    commit = tried.read_text().strip() if tried.exists() else ""
-    return commit if git("merge-base", commit, "HEAD").decode().strip() == commit else ""
+def known(tried):
+    """The commit that a file names, if it is an ancestor of this one, and the labels of the edits that wait."""
+    commit, *waiting = tried.read_text().split() if tried.exists() else [""]
+    is_known = commit and git("merge-base", commit, "HEAD").decode().strip() == commit
+    return commit if is_known else "", waiting
+
+
+def note(tried, commit, waiting):
+    """Writes the commit whose edits were tried, but for those that wait."""
+    tried.write_text("".join(f"{it}\n" for it in [commit, *waiting]))
 
 
 def is_drawn(edit, commit):
@@ -74,10 +83,14 @@ def is_drawn(edit, commit):
 
 
 def due(every, tried):
-    """The edits that are due since the commit that a file names, those of changed crates first, and a line of text."""
-    commit, head = since(tried), git("rev-parse", "HEAD").decode().strip()
+    """The edits that are due by what a file says, those that wait first, then those of changed crates, and a line of
+    text."""
+    commit, waiting = known(tried)
+    head = git("rev-parse", "HEAD").decode().strip()
+    first = [it for it in every if it.label in waiting]
     if not commit:
-        return every, "edits: there is no commit whose edits were all tried, so all are due"
+        rest = [it for it in every if it not in first]
+        return [*first, *rest], "edits: there is no commit whose edits were all tried, so all are due"
     with tempfile.TemporaryDirectory(prefix="crackd-due-") as room:
         files = git("archive", commit, "crates", "crates.txt")
         subprocess.run(["tar", "-x", "-C", room], input=files, check=True)
@@ -85,8 +98,8 @@ def due(every, tried):
         place = lambda top, it: pathlib.Path(top) / "crates" / it.crate / "must-fail" / it.name
         text = lambda path: path.read_bytes() if path.exists() else b""
         is_new = lambda it: text(place(room, it)) != text(place(crates.TOP, it))
-        first = [it for it in every if it.crate in changed or is_new(it)]
-    others = [it for it in every if it not in first and is_drawn(it, head)]
-    of = ", ".join(sorted(changed & {it.crate for it in first})) or "none"
-    said = f"edits: {len(first)} are due, new ones or of crates that changed since {commit[:12]} ({of})"
-    return [*first, *others], f"{said}, and {len(others)} are drawn from the others"
+        own = [it for it in every if it not in first and (it.crate in changed or is_new(it))]
+    others = [it for it in every if it not in first and it not in own and is_drawn(it, head)]
+    of = ", ".join(sorted(changed & {it.crate for it in own})) or "none"
+    said = f"edits: {len(first)} waited for a run to try them, {len(own)} are due, new ones or of crates that changed"
+    return [*first, *own, *others], f"{said} since {commit[:12]} ({of}), and {len(others)} are drawn from the others"

@@ -3,7 +3,9 @@
 
 It tries all edits, or those of the named crates, or as many of those that are due (due.py) as it can begin in SECONDS.
 First it proves their crates. Then it tries edits in parallel, as many as there are processors and memory for. Each try
-starts from what an earlier check of its crate kept. The last line is 'N passed, M failed'.
+starts from what an earlier check of its crate kept. The last line is 'N passed, M failed', and ', K skipped' if there
+was no time for K. After a run over all or over those that are due, tools/edits-tried names the commit and what still
+waits: those that were left and those that weren't refused. A run over named crates takes out those that it refuses.
 
 Edits of different functions are tried in one check: a proof cites the contracts of other functions, never their bodies,
 and a check reports for each function whether its own proof holds, or only lacks another's. Functions of which one may
@@ -233,8 +235,8 @@ class Trials:
     """Tries edits in rounds, until each has ended or the time is over."""
 
     def __init__(self, edits, ends):
-        # the edits that wait, and for each edit that was tried whether it was refused
-        self.ends, self.waiting, self.verdicts = ends, edits, []
+        # the edits that wait, and for each edit that was tried, by its label, whether it was refused
+        self.ends, self.waiting, self.verdicts = ends, edits, {}
 
     def keep(self, crate):
         """Checks a crate without edits, for what is kept of that."""
@@ -247,7 +249,7 @@ class Trials:
         check = Check(crate, batch)
         verdicts = {it: check.verdict_on(it, len(batch) == 1) for it in batch}
         for edit, (is_refused, text) in ((it, verdict) for it, verdict in verdicts.items() if verdict):
-            self.verdicts.append(is_refused)
+            self.verdicts[edit.label] = is_refused
             print(f"must-fail {edit.label}: {text}", flush=True)
         return [it for it in batch if not verdicts[it]]
 
@@ -268,28 +270,41 @@ class Trials:
             self.waiting = [edit for (_, batch), left in results for edit in (batch if left is None else left)]
 
 
+def note(trials, is_whole):
+    """Writes to tools/edits-tried what waits after a run, over all that was due or over some crates. A checkout whose
+    crates have changes that aren't committed says nothing about a commit."""
+    _, waiting = due.known(TRIED)
+    head, is_changed = due.git("rev-parse", "HEAD"), due.git("status", "--porcelain", "--", "crates", "crates.txt")
+    if not head or is_changed or not (is_whole or waiting):
+        return
+    if is_whole:
+        left = [it.label for it in trials.waiting] + [it for it in trials.verdicts if not trials.verdicts[it]]
+        due.note(TRIED, head.decode().strip(), sorted(left))
+    else:
+        due.note(TRIED, TRIED.read_text().split()[0], [it for it in waiting if not trials.verdicts.get(it)])
+
+
 def main(names):
-    ends, edits = float("inf"), [edit for it in crates.listed().values() for edit in edits_of(it)]
+    ends, edits, is_due = float("inf"), [edit for it in crates.listed().values() for edit in edits_of(it)], False
     if len(names) == 2 and names[0] == "--due":
-        ends = time.monotonic() + int(names[1])
+        ends, is_due = time.monotonic() + int(names[1]), True
         edits, said = due.due(edits, TRIED)
         print(said, flush=True)
     elif crates.known(names):
         edits = [it for it in edits if it.crate in names]
     if not prove.prove_names(sorted({it.crate for it in edits})):
-        print("edits: a crate isn't proved, so none was tried\n0 passed, 1 failed")
+        print(f"edits: a crate isn't proved, so none was tried\n0 passed, 1 failed, {len(edits)} skipped")
         return 1
     trials, before = Trials(edits, ends), os.times()
     trials.run()
     seconds = sum(os.times()[2:4]) - sum(before[2:4])
     print(f"edits: {len(trials.verdicts)} were tried of {len(edits)}, in {seconds:.0f} processor seconds")
-    if trials.waiting:
-        print(f"edits: left, for lack of time: {', '.join(it.label for it in trials.waiting)}")
-    commit, is_changed = due.git("rev-parse", "HEAD"), due.git("status", "--porcelain", "--", "crates", "crates.txt")
-    if not names and trials.verdicts == [True] * len(edits) and commit and not is_changed:
-        TRIED.write_bytes(commit)
-    failed = trials.verdicts.count(False)
-    print(f"{len(trials.verdicts) - failed} passed, {failed} failed", flush=True)
+    note(trials, is_due or not names)
+    failed, left = [*trials.verdicts.values()].count(False), len(trials.waiting)
+    if left:
+        print(f"edits: {left} wait for a run with more time: tools/edits-tried names them, and is to be committed")
+    skipped = f", {left} skipped" if left else ""
+    print(f"{len(trials.verdicts) - failed} passed, {failed} failed{skipped}", flush=True)
     return 1 if failed else 0
 
 

@@ -1,11 +1,13 @@
 #!/usr/bin/env python3
 """Proves crates and those below them, and keeps what is built: prove.py NAME .., or prove.py --all
 
-It only starts `rt ci`, on a copy without the must-fail edits, since no option leaves these out. Nothing is proved again
-that was proved on this machine. What is built is moved back; a static library, which `rt ci` only proves, is built.
+It starts `rt ci NAME` for each crate as soon as those below it are proved (graph.py), and then one `rt ci` over all of
+them, whose verdict counts; each on a copy without the must-fail edits, since no option leaves these out. Nothing is
+proved again that was proved on this machine. What is built is moved back; a static library, which `rt ci` only proves,
+is built.
 
-With names nothing is started if all is up to date, and what is said goes to standard error. With --all it is the gate:
-the last line of its output is 'N passed, M failed'.
+With names nothing is started if all is up to date, and what is said goes to standard error. With --all it is the gate,
+for all crates that users run: the last line of its output is 'N passed, M failed'.
 """
 
 import fcntl
@@ -18,10 +20,8 @@ import sys
 import tempfile
 
 import crates
+import graph
 from crates import TOP
-
-# lines of a check's output that don't help to correct a crate
-NOISE = ("checked ", "so far: ", "statements ", "by-macro: ", "logic ", "rt: chose ")
 
 
 def stamp_of(crate, told):
@@ -40,7 +40,7 @@ def copy(top, wanted):
     (top / "crates.txt").write_text("".join(f"{it.line}\n" for it in wanted))
     shutil.copyfile(TOP / "HANDLES", top / "HANDLES")
     (top / ".git").mkdir()
-    crates.sum_of.cache_clear()
+    crates.forget_sums()
     return {name: it for name, it in sums.items() if it == crates.sum_of(name)}
 
 
@@ -78,12 +78,15 @@ def keep(top, crate, told):
     crate.stamp.write_text(stamp_of(crate, told))
 
 
-def prove(wanted, say, is_gate=False):
+def prove(wanted, tell, say, is_gate=False):
     """Proves these crates, of which each comes after those below it, and keeps what was built, or as the gate all that
-    was. Returns whether all is well, and the lines that were said."""
+    was; `tell` gets the progress, and `say` the lines of the last `rt ci`. Returns whether all is well, and these
+    lines; without a proof there are none."""
     with tempfile.TemporaryDirectory(prefix="crackd-prove-") as room, open(TOP / "crates.txt") as lock:
         top = pathlib.Path(room) / "crackd"
         sums = copy(top, wanted)
+        if not graph.prove(wanted, top, tell) and not is_gate:
+            return False, []
         status, lines = run(["rt", "ci"], top, say)
         for crate in (it for it in wanted if it.is_static and status == 0):
             status, lines = build_static(crate, top)
@@ -94,21 +97,28 @@ def prove(wanted, say, is_gate=False):
     return status == 0, lines
 
 
+def is_current(crate):
+    """Whether what is kept of a crate was proved with the sources and the toolchain as they are."""
+    told = crate.stamp.read_text() if crate.stamp.exists() else ""
+    return told != "" and told == stamp_of(crate, crates.sum_of(crate.name))
+
+
 def prove_names(names):
     """Proves these crates and those below them, unless they are up to date. Returns whether all are proved."""
     wanted = crates.with_below(names)
-    if all(it.stamp.exists() and it.stamp.read_text() == stamp_of(it, crates.sum_of(it.name)) for it in wanted):
+    if all(map(is_current, wanted)):
         return True
     tell = lambda text: print(text, end="", file=sys.stderr, flush=True)
-    is_well, lines = prove(wanted, lambda line: tell(line) if line.startswith("rt: ") else None)
+    is_well, lines = prove(wanted, tell, lambda line: tell(line) if line.startswith("rt: ") else None)
     if not is_well:
-        tell("".join(it for it in lines[-80:] if not it.startswith(NOISE)))
+        tell("".join(it for it in lines[-80:] if not it.startswith(graph.NOISE)))
     return is_well
 
 
 def main(words):
     if words == ["--all"]:
-        is_well, _ = prove([*crates.listed().values()], lambda line: print(line, end="", flush=True), is_gate=True)
+        tell = lambda text: print(text, end="", flush=True)
+        is_well, _ = prove(crates.proved(), tell, tell, is_gate=True)
     else:
         is_well = prove_names(crates.known(words)) if words else sys.exit(__doc__)
     return 0 if is_well else 1

@@ -9,6 +9,7 @@ import re
 import sys
 import tempfile
 import unittest
+from unittest import mock
 
 # `python3 -m unittest tools.test_tools` runs in the top folder
 sys.path.insert(0, str(pathlib.Path(__file__).resolve().parent))
@@ -18,6 +19,8 @@ import defined
 import documents
 import due
 import edits
+import graph
+import kept
 import numbers_held
 import prove
 import trust
@@ -221,6 +224,99 @@ class Due(unittest.TestCase):
         self.assertEqual(len(due.due(every, pathlib.Path("no-such-file"))[0]), 400)
         drawn = [it for it in every if due.is_drawn(it, "0" * 40)]
         self.assertTrue(20 < len(drawn) < 60)
+
+    def test_edits_that_wait_come_first(self):
+        every = [edits.Edit("crack_row", f"no_{number}.edit") for number in range(400)]
+        tried, waiting = folder_with(self, {}) / "tried", [every[399].label, every[7].label, "crack_row/gone.edit"]
+        for commit in ("0" * 40, due.git("rev-parse", "HEAD").decode().strip()):
+            due.note(tried, commit, waiting)
+            found, _ = due.due(every, tried)
+            self.assertEqual(found[:2], [every[7], every[399]])
+            self.assertEqual(len({it.label for it in found}), len(found))
+
+    def noted(self, trials, is_whole, before):
+        """What is written after a run over all edits, or over some, in a checkout without changes."""
+        tried = folder_with(self, {"tried": before}) / "tried"
+        git = lambda *words: b"head\n" if words[0] == "rev-parse" else b""
+        with mock.patch.object(edits, "TRIED", tried), mock.patch.object(due, "git", git):
+            edits.note(trials, is_whole)
+        return tried.read_text()
+
+    def test_what_was_left_or_was_not_refused_waits(self):
+        one, other, third = (edits.Edit("crack_row", f"{it}.edit") for it in ("a", "b", "c"))
+        trials = edits.Trials([third], 0)
+        trials.verdicts = {one.label: True, other.label: False}
+        self.assertEqual(self.noted(trials, True, f"old\n{one.label}\n"), f"head\n{other.label}\n{third.label}\n")
+        # a run over some crates leaves the commit as it is, and takes out what it refused
+        before = f"old\n{one.label}\n{other.label}\n"
+        self.assertEqual(self.noted(trials, False, before), f"old\n{other.label}\n")
+        with mock.patch.object(due, "git", lambda *words: b"changed"):
+            tried = folder_with(self, {"tried": before}) / "tried"
+            with mock.patch.object(edits, "TRIED", tried):
+                edits.note(trials, True)
+            self.assertEqual(tried.read_text(), before)
+
+
+class Proving(unittest.TestCase):
+    """The order in which crates are proved. Nothing is proved: each proof is a stand-in."""
+
+    def run_graph(self, fails=(), done=(), at_once=3):
+        """Whether all were proved, the names of the crates in the order in which they began, and what was said."""
+        began, said, wanted, folder = [], [], crates.proved(), folder_with(self, {})
+
+        def stand_in(crate, top, priority):
+            began.append(crate.name)
+            return (1, "checked one\nwhy\n", 1.0) if crate.name in fails else (0, "", 1.0)
+
+        with mock.patch.object(graph, "measured", lambda crate: folder / crate.name):
+            it = graph.Graph(wanted, folder, said.append, done, stand_in)
+            it.at_once = at_once
+            return it.run(), began, said
+
+    def test_each_comes_after_those_below_it_once_and_those_kept_are_not_begun(self):
+        is_well, began, said = self.run_graph(done=["crack_row", "crack_arena"])
+        names = [it.name for it in crates.proved()]
+        self.assertTrue(is_well)
+        self.assertEqual(sorted([*began, "crack_row", "crack_arena"]), sorted(names))
+        places = {name: at for at, name in enumerate(["crack_row", "crack_arena", *began])}
+        self.assertTrue(all(places[it] < places[name] for name in names for it in crates.listed()[name].uses))
+        self.assertEqual(len(said), len(began) + 1)
+        progress = r"\d+ of 25 done, running: .*, \d+ left, \d+ minutes to go$"
+        self.assertRegex(said[1], rf"^prove: \w+ is proved after 1 s; {progress}")
+        self.assertRegex(said[-1], r"; 25 of 25 done, running: none, 0 left, 0 minutes to go$")
+
+    def test_after_a_failure_nothing_is_begun(self):
+        is_well, began, said = self.run_graph(fails=["crack_plain"], done=["crack_row"], at_once=1)
+        self.assertFalse(is_well)
+        self.assertEqual(began[-1], "crack_plain")
+        self.assertTrue(said[-1].startswith("why\nprove: crack_plain FAILED after 1 s; "), said[-1])
+
+    def test_the_longest_chain_is_first_and_the_rest_of_a_run_is_estimated(self):
+        wanted = [crates.Crate(*it, ()) for it in [("a", "", ()), ("b", "", ()), ("c", "", ("a",)), ("d", "", ("b",))]]
+        seconds = {"a": 10.0, "b": 20.0, "c": 50.0, "d": 1.0}
+        chain = graph.chains(wanted, seconds)
+        self.assertEqual(chain, {"a": 60, "b": 21, "c": 50, "d": 1})
+        self.assertEqual([it.name for it in graph.ready(wanted, {"a"}, {"b"}, chain)], ["c"])
+        self.assertEqual(graph.simulated(wanted, seconds, 1), 81)
+        self.assertEqual(graph.simulated(wanted, seconds, 2), 60)
+        self.assertEqual(graph.simulated(wanted, seconds, 2, {"a"}, {"b": 5}), 50)
+
+    def test_crates_of_tests_and_the_benchmark_are_not_proved(self):
+        left = {it.name for it in crates.listed().values() if not it.is_proved}
+        tests = {it for it in crates.listed() if it.endswith("_tests")}
+        self.assertEqual(left, tests | {"crack_failing", "crack_bench"})
+        self.assertEqual({it.name for it in crates.with_below(["crackd", "crackd_c"])}, set(crates.listed()) - left)
+
+    def test_with_another_toolchain_nothing_is_known_to_be_kept(self):
+        top = folder_with(self, {"bin/rt": "import os\n"})
+        with mock.patch.object(crates, "kit", lambda path="": top / path):
+            self.assertEqual(kept.names(top), set())
+
+    def test_what_nothing_is_kept_of_is_not_up_to_date(self):
+        crate = crates.Crate("crack_row", "", (), ())
+        top = folder_with(self, {"crates/crack_row/out/proved/stamp": ""})
+        with mock.patch.object(crates, "TOP", top):
+            self.assertFalse(prove.is_current(crate))
 
 
 class Reading(unittest.TestCase):
