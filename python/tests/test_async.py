@@ -136,7 +136,8 @@ class Tasks(unittest.IsolatedAsyncioTestCase):
         for before, after in [(None, 0.05), (60, 0.05), (0.3, None), (0.3, 60)]:
             async with Scripted.connected(lambda line, it: b"", timeout=before) as (table, scripted):
                 waiting = asyncio.ensure_future(table.count(1, 2))
-                while len(scripted.heard) < 2:
+                # the first two lines are the connection's own
+                while len(scripted.heard) < 3:
                     await asyncio.sleep(0)
                 table.timeout = after
                 self.assertEqual(table.timeout, after)

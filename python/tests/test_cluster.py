@@ -83,6 +83,16 @@ class OnACluster(OnWorkers, Cases, unittest.TestCase):
             ends = [it.ends for it in layout.parts]
             self.assertEqual((ends[0][0], ends[-1][1], ends[0][1], ends[1][1]), (0, 2**64, ends[1][0], ends[2][0]))
 
+    def test_splits_within_a_shard_are_above_its_first_key(self):
+        keys = np.repeat([1, 5, 7, 9], [3000, 9000, 9000, 3000])
+        with self.table(keys, partitions=2) as table:
+            layout = table.layout()
+            self.assertEqual((table.shards, len(layout.parts)), (2, table.partitions))
+            self.assertTrue(all(low < high for low, high in (it.ends for it in layout.parts)))
+            rows = table.insert_many(keys, np.arange(len(keys)))
+            self.assertEqual(table.layout().rows, len(np.unique(rows)))
+            self.assertEqual(table.count_by([1, 5, 7, 9, None]).tolist(), [3000, 9000, 9000, 3000])
+
     def test_policies_answer_the_same(self):
         for policy in crackd.base.POLICIES:
             with self.table(range(100), policy=policy) as table:
@@ -419,6 +429,16 @@ class Saves(OnWorkers, unittest.TestCase):
                 )
                 self.assertEqual(sum(it.pending_in for it in table.layout().parts), 0)
 
+    def test_what_a_killed_save_left_goes_and_other_files_stay(self):
+        first = self.saved()
+        left = [f"shard-0000-{'a1' * 6}.npy", f"shard-0001-{'a1' * 6}.npy.part", f"shard-0002-{'a1' * 6}.npy.part"]
+        others = ["rows.npy", "shard.npy.txt", "notes"]
+        for name in (*left, *others):
+            (self.folder / name).write_bytes(b"left")
+        manifest = self.saved()
+        self.assertNotEqual(manifest["files"], first["files"])
+        self.assertEqual(sorted(os.listdir(self.folder)), sorted(["manifest.json", *manifest["files"], *others]))
+
     def test_on_another_cluster(self):
         self.saved()
         with local(2) as client, cluster.Table.restore(client, self.folder) as table:
@@ -587,6 +607,18 @@ class OfDask(OnWorkers, unittest.TestCase):
             with self.subTest(key=key, payload=payload):
                 self.assertRaises(kind, cluster.Table.from_dask, MODULE["client"], frame, key, payload)
         self.assertRaises(crackd.Full, cluster.Table.from_dask, MODULE["client"], frame, "whole", cells=1, shards=1)
+
+    def test_rows_that_are_not_placed_are_missed(self):
+        frame, real = self.frame({"key": np.arange(100), "payload": np.ones(100, np.int64)}, 4), cluster.load_block
+
+        def all_but_the_last(number, *words):
+            return 25 if number == 3 else real(number, *words)
+
+        for lost, placed in [(lambda *_: 25, 0), (all_but_the_last, 75)]:
+            with mock.patch.object(cluster, "load_block", lost):
+                said = f"100 rows were sent, and {placed} were placed"
+                with self.assertRaisesRegex(cluster.ShardFailed, said):
+                    cluster.Table.from_dask(MODULE["client"], frame, "key", "payload")
 
     def test_no_block_comes_to_the_client(self):
         from distributed.protocol import serialize

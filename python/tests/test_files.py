@@ -74,6 +74,9 @@ class Files(unittest.TestCase):
         )
         self.wrong("line 1, column 2: the line has only 1 field", "1\n")
         self.wrong("line 1, column 1: '' isn't an integer", ",1\n")
+        # a record of empty fields isn't blank
+        self.wrong("line 2, column 1: '' isn't an integer", "1,2\n,\n3,4\n")
+        self.wrong("line 4, column 1: '' isn't an integer", '1,2\n\n3,4\n"",""\n\n')
         self.wrong("line 1, column 1: there is no column 'z'; the header has a, b", "a,b\n1,2\n", "z")
         self.wrong("line 1, column 1: there is no column 'z'; the header has none", "", "z")
         self.wrong("line 1, column 1: '1_0' isn't an integer", "1_0,1\n")

@@ -1,6 +1,7 @@
 """What a forked child process may do with its parent's tables and servers."""
 
 import contextlib
+import errno
 import os
 import signal
 import threading
@@ -156,6 +157,20 @@ class ForkingOverTcp(Forking, OverTcp, unittest.TestCase):
         with crackd.serve(workers=2) as server, server.connect() as table:
             table.insert(5, 7)
             self.assertEqual((in_child(work), table.sum()), (["15", "Forked"], 15))
+
+    def test_a_child_does_not_hold_the_connection_of_its_parent(self):
+        def work():
+            try:
+                return [str(os.fstat(connection))]
+            except OSError as error:
+                return [errno.errorcode[error.errno]]
+
+        with self.table() as table:
+            connection = table._channel.socket.fileno()
+            self.assertEqual(in_child(work), ["EBADF"])
+            # the parent's descriptor is open, and its connection works
+            os.fstat(connection)
+            self.assertEqual(table.count(), 0)
 
 
 @wants_library

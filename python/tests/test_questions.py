@@ -87,7 +87,8 @@ class Questions:
             for call in (table.count_by, table.sum_by):
                 for edges in ([], [1], None):
                     self.assertRaises((ValueError, TypeError), call, edges)
-                self.assertRaisesRegex(TypeError, "only the first and the last edge", call, [1, None, 3])
+                for edges in ([1, None, 3], (1, None, 3), (None, None, 3), [1, None, None]):
+                    self.assertRaisesRegex(TypeError, "only the first and the last edge", call, edges)
                 self.assertRaisesRegex(ValueError, "range 1: the low end 5 is above the high end 3", call, [1, 5, 3, 9])
                 self.assertEqual(numbers(call([2, 2, 2])), [0, 0])
                 self.assertEqual(len(call([None, None])), 1)

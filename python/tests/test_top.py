@@ -164,6 +164,23 @@ class Servers(unittest.TestCase):
             with urllib.request.urlopen(f"{url}/metrics") as reply:
                 self.assertTrue(reply.read().endswith(b"crackd_up 0\n"))
 
+    def test_a_server_that_was_started_again_is_asked_at_once(self):
+        with contextlib.ExitStack() as stack:
+            server = stack.enter_context(crackd.serve(workers=1))
+            watched = top.Watched("127.0.0.1", server.port)
+            self.assertEqual(watched.numbers().whole["rows"], 0)
+            with mock.patch.object(crackd.server, "free_port", lambda: server.port):
+                server.close()
+                self.assertIsNone(watched.numbers())
+                again = stack.enter_context(crackd.serve(workers=1))
+                stack.enter_context(again.connect()).insert(5, 7)
+                self.assertEqual(watched.numbers().whole["rows"], 1)
+                again.close()
+                # nobody has asked while no server was there
+                last = stack.enter_context(crackd.serve(workers=1))
+                stack.enter_context(last.connect()).insert_many([5, 6], [7, 8])
+                self.assertEqual(watched.numbers().whole["rows"], 2)
+
 
 if __name__ == "__main__":
     unittest.main()
