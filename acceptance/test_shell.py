@@ -154,13 +154,13 @@ class Typed(fixtures.Case):
             shell.leave(1, 0, 0, 0)
 
     def test_control_c_in_a_load(self) -> None:
-        """An interrupted load reports how many rows it inserted, and exactly these are there."""
+        """An interrupted load leaves no row."""
 
         def feed(path: pathlib.Path) -> None:
             with contextlib.suppress(OSError), open(path, "w") as file:
                 while True:
                     file.write("7,1\n" * 1000)
-                    # so that the history isn't full too soon
+                    # so that memory isn't full too soon
                     time.sleep(0.01)
 
         with talking("--program", self.program) as (shell, folder):
@@ -168,12 +168,12 @@ class Typed(fixtures.Case):
             os.mkfifo(endless)
             feeder = threading.Thread(target=feed, args=[endless], daemon=True)
             feeder.start()
-            shell.ask(".load endless", r"\r\d+ rows")
+            shell.ask(".load endless", r"\r\d+ rows read")
             shell.type(CONTROL_C)
-            rows = shell.wait_for(r"shell: interrupted: loaded (\d+) rows\n")[1]
-            shell.ask(f"count {EVERYTHING}", f"count {rows}" + TIME)
+            shell.wait_for(r"shell: interrupted: nothing is loaded\n")
+            shell.ask(f"count {EVERYTHING}", "count 0" + TIME)
             feeder.join(SECONDS)
-            shell.leave(int(rows) + 1, rows, 0, rows)
+            shell.leave(1, 0, 0, 0)
 
     def test_history_and_completion(self) -> None:
         """Typed lines are kept in a file and can be recalled; Tab completes words."""

@@ -11,9 +11,8 @@ from unittest import mock
 
 import ways  # finds the package
 
-from crackd.shell import texts, typing
+from crackd.shell import statements, texts, typing
 from crackd.shell.console import replacing, with_ends
-from crackd.shell.session import Loaded, Records
 
 TOP = b"18446744073709551616"
 
@@ -57,16 +56,60 @@ class Files(unittest.TestCase):
             self.assertEqual(typing.completions(f".load {begun}", begun), [f"{self.room}{os.sep}{it}" for it in wanted])
 
 
-class Loads(unittest.TestCase):
-    """What a load says of a row that is refused."""
+class Statements(unittest.TestCase):
+    """What is wrong with a statement that was refused, and the help for one."""
 
-    def test_a_header_counts_as_a_record(self):
-        for header, number in (("", 2), ("key,payload\n", 3)):
-            records, loaded = Records(io.StringIO(f"{header}1,1\n2,2\n3,3\n")), Loaded()
-            self.assertEqual(len(records.next_rows(mock.MagicMock())), 3)
-            loaded.take(["row 0.0", "refused 8", "row 1.0"])
-            said = f"record {number}: refused 8: memory ran out; no row has changed; loaded before it: 1 row; "
-            self.assertEqual(loaded.end_text(records, False), said + "loaded after it, since already sent: 1")
+    FAULTS = {
+        "count": "count needs LO and HI: count LO HI",
+        "count 5": "count needs HI: count LO HI",
+        "  count   5  ": "count needs HI: count LO HI",
+        "count 5 10 15": "count takes no '15': count LO HI",
+        "ping now": "ping takes no 'now': ping",
+        "stats 0 1": "stats takes no '1': stats [P]",
+        "insert 7": "insert needs V: insert K V",
+        "update 0.0 7": "update needs V: update P.S K V",
+        "COUNT 0 10": "statements are in lower case: count",
+        "Insert 7 70": "statements are in lower case: insert",
+        "insert 7.5 70": "7.5 isn't a whole number; K is a key, a whole number from 0 to 18446744073709551615",
+        "count 0 .5": ".5 isn't a whole number; HI is the key past its last one; the word end is past all keys",
+        "insert -7 70": "'-7' is no key; K is a key, a whole number from 0 to 18446744073709551615",
+        "insert +7 70": "+7 has a sign; K is a key, a whole number from 0 to 18446744073709551615",
+        "insert 18446744073709551616 1": "'18446744073709551616' is no key; K is a key, a whole number from 0 to "
+        "18446744073709551615",
+        "insert 1 9223372036854775808": "'9223372036854775808' is no payload; V is a payload, a whole number from "
+        "-9223372036854775808 to 9223372036854775807",
+        "delete 7": "'7' is no row number; P.S is a row number, as an insert or a select gives it: 0.7",
+        "delete 0.1.2": "'0.1.2' is no row number; P.S is a row number, as an insert or a select gives it: 0.7",
+        "delete 4294967296.0": "4294967296.0 is greater than any row number",
+        "layout x": "'x' is no partition; P is the number of a partition, from 0",
+        "policy fast": "'fast' isn't a policy; NAME is one of complete, gradual, ripple, auto",
+        "fetch 7": "'fetch' isn't a statement; help lists them",
+        "conut 0 5": "'conut' isn't a statement; help lists them; is it count?",
+        "count\t0 5": "'count\\t0' isn't a statement; help lists them; is it count?",
+        "count 0 " + "1" * 200: "the line has more than 200 bytes",
+        "count 0 5": "",
+        "insert 18446744073709551615 -9223372036854775808": "",
+        "stats": "",
+        "": "",
+    }
+
+    def test_what_is_wrong(self):
+        for line, fault in self.FAULTS.items():
+            self.assertEqual((line, statements.fault_in(line)), (line, fault))
+
+    def test_each_statement_has_its_own_help(self):
+        self.assertEqual(list(statements.STATEMENTS), [it for it in typing.WORDS if it not in ("exit", "help")])
+        for name, known in statements.STATEMENTS.items():
+            self.assertTrue(statements.help_of(name).startswith(f"{name}"))
+            self.assertIn(known.does, statements.help_of(name))
+        self.assertEqual(
+            statements.help_of("count"),
+            "count LO HI: counts the rows with keys from LO up to but not including HI\n"
+            "  LO is the first key of the range\n"
+            "  HI is the key past its last one; the word end is past all keys\n"
+            "  example: count 5 10",
+        )
+        self.assertIn("count ", typing.completions("help cou", "cou"))
 
 
 class Complaints(unittest.TestCase):

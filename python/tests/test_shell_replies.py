@@ -159,31 +159,33 @@ class Loads(unittest.TestCase):
     """How a file of rows is sent."""
 
     def load(self, rows, answer, policy="auto", at_once=None, interrupts=None, header="", blocks=(2, 3)):
-        channel, progress, calm = Answering(answer, at_once), mock.Mock(), interrupts or Calm()
+        """The channel, and what the load of so many rows returned or raised."""
+        self.channel, calm = Answering(answer, at_once), interrupts or Calm()
+        self.progress = mock.Mock()
         text = io.StringIO(header + "".join(f"{it},{-it}\n" for it in range(rows)))
         with mock.patch.multiple(session, ROWS_AT_ONCE=blocks[0], ROWS_UNANSWERED=blocks[1]):
+            columns = Records(text).read(Calm(), mock.Mock())
             try:
-                loaded = Session(channel, calm, policy).load(Records(text), progress)
+                return Session(self.channel, calm, policy).load(columns, self.progress)
             finally:
-                self.assertEqual(progress.clear.call_count, 1)
-        return channel, loaded, progress
+                self.assertEqual(self.progress.clear.call_count, 1)
 
     def test_each_row_is_sent_once_and_counted(self):
         for rows in (0, 1, 2, 3, 4, 5, 9):
             for at_once in (None, 1, 3):
                 for header in ("", "key,payload\n"):
-                    channel, loaded, progress = self.load(rows, lambda _: ["row 0.0"], "auto", at_once, header=header)
-                    self.assertEqual(channel.sent, [f"insert {it} {-it}" for it in range(rows)])
-                    self.assertEqual((loaded.sent, loaded.answered, loaded.placed), (rows, rows, rows))
-                    self.assertEqual((loaded.refusal, loaded.before), ("", 0))
+                    loaded = self.load(rows, lambda _: ["row 0.0"], "auto", at_once, header=header)
+                    self.assertEqual(self.channel.sent, [f"insert {it} {-it}" for it in range(rows)])
+                    self.assertEqual(loaded, rows)
                     # it goes on while at most 3 rows are unanswered, and then sends 2 more
-                    self.assertLessEqual(channel.most, 5)
+                    self.assertLessEqual(self.channel.most, 5)
                     if rows == 9 and at_once and not header:
-                        told = [it.args[0] for it in progress.show.call_args_list]
+                        told = [it.args[0] for it in self.progress.show.call_args_list]
                         self.assertEqual((len(told), told[-1]), (5, "6 rows"))
 
     def test_it_waits_until_all_is_sent(self):
-        channel, loaded = Answering(lambda _: []), Loaded(sent=1, answered=1)
+        channel, loaded = Answering(lambda _: []), Loaded()
+        loaded.sent = loaded.answered = 1
         for steps in (0, 1, 3):
             channel.unsent = steps * b"x"
             with mock.patch.object(channel, "step", lambda: setattr(channel, "unsent", channel.unsent[1:])):
@@ -193,35 +195,77 @@ class Loads(unittest.TestCase):
     def test_the_policy_is_set_only_if_nobody_knows_it(self):
         answer = lambda line: ["policy auto"] if line.startswith("policy") else ["row 0.0"]
         for policy, sent in [(None, ["policy auto"]), ("ripple", []), ("auto", [])]:
-            self.assertEqual(self.load(1, answer, policy)[0].sent, [*sent, "insert 0 0"])
+            self.load(1, answer, policy)
+            self.assertEqual(self.channel.sent, [*sent, "insert 0 0"])
+        columns = Records(io.StringIO("1,1\n")).read(Calm(), mock.Mock())
         with self.assertRaisesRegex(texts.Fault, "policy auto: refused 1: this isn't a statement"):
-            Session(Answering(lambda _: ["refused 1"]), Calm(), None).load(Records(io.StringIO("1,1\n")), mock.Mock())
+            Session(Answering(lambda _: ["refused 1"]), Calm(), None).load(columns, mock.Mock())
 
-    def test_a_refusal_ends_it_after_what_was_sent(self):
-        for place in range(6):
-            answer = lambda line: ["refused 9"] if line == f"insert {place} {-place}" else ["row 0.0"]
-            channel, loaded, _ = self.load(6, answer)
-            # it goes on while at most 3 rows are unanswered, so it sends two blocks of 2 before it reads any reply
-            sent = 4 if place < 4 else 6
-            self.assertEqual((len(channel.sent), loaded.sent, loaded.answered), (sent, sent, sent))
-            self.assertEqual((loaded.refusal, loaded.before, loaded.placed), ("refused 9", place, sent - 1))
+    def table(self, refused, code="9", history=10**6):
+        """The answers of a partition that refuses one insert, or all statements once its history is full."""
+        rows, entries = {}, [0]
+
+        def answer(line):
+            words = line.split()
+            if words[0] == "checkpoint":
+                entries[0] = 0
+                return ["folded 1"]
+            if line == refused:
+                return [f"refused {code}"]
+            if entries[0] >= history:
+                return [f"refused 6 {history}"]
+            entries[0] += 1
+            if words[0] == "insert":
+                rows[f"0.{len(rows)}"] = words[1:]
+                return [f"row 0.{len(rows) - 1}"]
+            return ["gone " + " ".join(rows.pop(words[1]))]
+
+        return rows, answer
+
+    def test_a_refusal_takes_all_rows_back(self):
+        for header in ("", "key,payload\n"):
+            for place in range(6):
+                rows, answer = self.table(f"insert {place} {-place}")
+                number = place + 1 + bool(header)
+                with self.assertRaisesRegex(texts.Fault, f"^record {number}: refused 9: .*; nothing is loaded$"):
+                    self.load(6, answer, header=header)
+                # it goes on while at most 3 rows are unanswered, so it sends two blocks of 2 before it reads any reply
+                inserts = [it for it in self.channel.sent if it.startswith("insert")]
+                self.assertEqual((len(inserts), rows), (4 if place < 4 else 6, {}))
+
+    def test_rows_are_taken_back_out_of_a_full_history(self):
+        rows, answer = self.table(None, history=3)
+        with self.assertRaisesRegex(texts.Fault, "^record 4: refused 6 3: .*; nothing is loaded$"):
+            self.load(6, answer)
+        self.assertEqual((rows, self.channel.sent.count("checkpoint 0")), ({}, 1))
+
+    def test_rows_that_cannot_be_taken_back_are_told(self):
+        for row in ("0.1", "0.2"):
+            rows, answer = self.table("insert 3 -3")
+            stubborn = lambda line: ["refused 10"] if line == f"delete {row}" else answer(line)
+            with self.assertRaisesRegex(texts.Fault, "^record 4: refused 9: .*; 1 row of it couldn't be deleted: refused 10: "):
+                self.load(4, stubborn)
+            self.assertEqual(list(rows), [row])
 
     def test_only_the_first_refusal_is_told(self):
         loaded = Loaded()
         loaded.take(["row 0.0", "refused 8"])
-        loaded.take(["row 0.1", "refused 9", "row 0.2"])
+        loaded.take(["row 0.1", "refused 9", "row 2.2"])
         self.assertEqual((loaded.refusal, loaded.before, loaded.placed, loaded.answered), ("refused 8", 1, 3, 5))
+        self.assertEqual((list(loaded.parts), list(loaded.serials)), ([0, 0, 2], [0, 1, 2]))
 
-    def test_a_control_c_ends_it(self):
+    def test_a_control_c_takes_all_rows_back(self):
         calm = Calm()
+        rows, answer = self.table(None)
 
-        def answer(line):
-            calm.noted = line == "insert 3 -3"
-            return ["row 0.0"]
+        def interrupted(line):
+            calm.noted = calm.noted or line == "insert 3 -3"
+            return answer(line)
 
-        channel, loaded, _ = self.load(9, answer, interrupts=calm)
-        self.assertEqual((len(channel.sent), loaded.answered), (4, 4))
-        self.assertEqual(loaded.end_text(Records(io.StringIO()), True), "interrupted: loaded 4 rows")
+        with self.assertRaisesRegex(texts.Interrupted, "^nothing is loaded$"):
+            self.load(9, interrupted, interrupts=calm)
+        inserts = [it for it in self.channel.sent if it.startswith("insert")]
+        self.assertEqual((len(inserts), rows), (4, {}))
 
     def test_a_server_that_leaves(self):
         def answer(line):
@@ -232,16 +276,64 @@ class Loads(unittest.TestCase):
         with self.assertRaisesRegex(texts.Left, "4 rows had been answered"):
             self.load(9, answer)
 
-    def test_what_ends_it_in_words(self):
-        records = Records(io.StringIO("1,1\nx\n"))
-        records.next_rows(Calm())
-        self.assertTrue(Loaded(placed=1).end_text(records, False).endswith("'x'; loaded before it: 1 row"))
-        whole = Records(io.StringIO("1,1\n"))
-        whole.next_rows(Calm())
-        self.assertEqual(Loaded(placed=1).end_text(whole, False), "")
-        said = "record 3: refused 9: "
-        self.assertTrue(Loaded(4, 4, 2, "refused 9", 2).end_text(whole, False).startswith(said))
-        self.assertTrue(Loaded(4, 4, 2, "refused 9", 2).end_text(whole, True).endswith("loaded before it: 2 rows"))
+    def test_nothing_of_a_file_with_a_fault_is_sent(self):
+        with self.assertRaisesRegex(texts.Fault, "^record 2: refused 19: .*'x'; nothing is loaded$"):
+            Records(io.StringIO("1,1\nx\n")).read(Calm(), mock.Mock())
+        calm = Calm()
+        calm.noted = 1
+        with self.assertRaisesRegex(texts.Interrupted, "^nothing is loaded$"):
+            Records(io.StringIO("1,1\n")).read(calm, mock.Mock())
+
+
+class Splits(unittest.TestCase):
+    """A load into an empty table of the shell's own server."""
+
+    def test_one_partition_for_each_65536_rows(self):
+        for rows, parts in [(0, 1), (1, 1), (65_536, 1), (65_537, 2), (131_072, 2), (131_073, 3), (2**22 + 1, 64)]:
+            columns = session.Columns(mock.Mock())
+            columns.keys.extend(range(rows))
+            splits = columns.splits()
+            self.assertEqual((rows, len(splits) + 1), (rows, parts))
+            for low, high in zip([0, *splits], [*splits, rows]):
+                self.assertLessEqual(abs(high - low - rows / parts), rows / 64)
+
+    def sent_after(self, *statements, renewed=True, policy="auto", rows=11):
+        """What the servers before and after the load were sent, and the splits of the second one."""
+        answers = {"insert": "row 0.0", "policy": "policy gradual", "quit": "bye", "delete": "none", "count": "count 0"}
+        answer = lambda line: [answers[line.split()[0]]]
+        first, second, splits = Answering(answer), Answering(answer), []
+        first.close = mock.Mock()
+
+        def renew(cuts):
+            splits.append(cuts)
+            return second
+
+        told = Session(first, Calm(), policy, renew if renewed else None)
+        for it in statements:
+            told.ask(it)
+        columns = session.Columns(mock.Mock())
+        columns.keys.extend(range(rows))
+        columns.payloads.extend(bytes(rows))
+        with mock.patch.object(session, "ROWS_A_PART", 10):
+            self.assertEqual(told.load(columns, mock.Mock()), rows)
+        return first.sent, second.sent, splits
+
+    def test_the_server_is_started_anew_if_nothing_was_written(self):
+        for before in ([], ["count 0 5"], ["delete 0.0"], ["policy gradual"]):
+            first, second, splits = self.sent_after(*before)
+            self.assertEqual((first, len(splits), len(splits[0])), ([*before, "quit"], 1, 1))
+            self.assertEqual(second[:2], [f"policy {'gradual' if 'policy gradual' in before else 'auto'}", "insert 0 0"])
+            self.assertEqual((len(second), splits[0]), (12, [5]))
+
+    def test_it_isnt_if_something_was_written_or_it_is_anothers(self):
+        for before, how in [
+            (["insert 1 1"], {}),
+            (["insert 1 1", "delete 0.0"], {}),
+            ([], {"renewed": False}),
+            ([], {"rows": 10}),
+        ]:
+            first, second, splits = self.sent_after(*before, **how)
+            self.assertEqual((len(first), second, splits), (len(before) + how.get("rows", 11), [], []))
 
 
 LAYOUTS = [
@@ -456,7 +548,9 @@ class Lines(unittest.TestCase):
         shell, out, errors = self.run_lines("count 0 1", "x", ".mode x", "y", "x", answer=answer)
         self.assertEqual((shell.answered, shell.refused, shell.faults), (4, 2, 3))
         self.assertEqual(out, "count 5\nrefused 1\ncount 5\nrefused 1\n")
-        self.assertEqual(errors, "shell: .mode is one of lines, csv, json\n")
+        said = "refused 1: 'x' isn't a statement; help lists them\n"
+        wanted = f"shell: line 2: {said}shell: .mode is one of lines, csv, json\nshell: line 5: {said}"
+        self.assertEqual(errors, wanted)
 
     def test_a_filter_ends_at_a_fault_with_bail(self):
         answer = lambda line: ["bye"] if line == "quit" else ["refused 1"] if "x" in line else ["count 5"]
@@ -501,7 +595,7 @@ class Lines(unittest.TestCase):
         _, out, _ = self.run_lines(".limit 1", "select 0 10", "x", answer=answer, is_terminal=True)
         time = r"\([0-9.]+ m?s\)\n"
         rows = r"rows 2\n0\.0 7 70\n\(1 row more; \.limit off shows all\)  " + time
-        self.assertRegex(out, f"^{rows}refused 1: this isn't a statement; help lists them  {time}$")
+        self.assertRegex(out, f"^{rows}refused 1: 'x' isn't a statement; help lists them  {time}$")
         _, out, _ = self.run_lines("select 0 10", answer=answer, is_terminal=True)
         self.assertRegex(out, r"^rows 2\n0\.0 7 70\n0\.1 8 -80\n" + time)
 
@@ -519,7 +613,8 @@ class Lines(unittest.TestCase):
             self.assertEqual((shell.answered, shell.refused, shell.faults), (3, 2, 3))
             (room / "again").write_text(f".read {room}/again\ncount 0 1\n")
             shell, _, errors = self.run_lines(f".read {room}/again", f".read {room}/again", answer=answer)
-            self.assertEqual(errors, f"shell: {room}/again: it is already being read\n" * 2)
+            said = f"shell: {room}/again: it is already being read\nshell: {room}/again: line 2: refused 1: "
+            self.assertEqual(errors.replace(f"{texts.MEANINGS['1']}\n", "\n"), f"{said}\n" * 2)
             refusing = lambda line: ["refused 8"] if line.startswith("select") else answer(line)
             shell, _, errors = self.run_lines(f".save {room}/all.csv", answer=refusing)
             self.assertRegex(errors, "^shell: not saved: select 0 10: refused 8")
@@ -532,7 +627,11 @@ class Lines(unittest.TestCase):
             path = pathlib.Path(name) / "lines"
             path.write_text("count 0 1\nx\ncount 0 2\n")
             _, _, errors = self.run_lines(".bail on", f".read {path}", answer=answer)
-            self.assertEqual(errors, f"shell: {path} was read up to its line 2, since .bail is on\n")
+            self.assertEqual(
+                errors,
+                f"shell: {path}: line 2: refused 1: 'x' isn't a statement; help lists them\n"
+                f"shell: {path} was read up to its line 2, since .bail is on\n",
+            )
             self.assertEqual(self.channel.sent, ["count 0 1", "x", "quit"])
             path.write_text("count 0 1\nquit\ncount 0 2\n")
             self.run_lines(f".read {path}", "count 0 3", answer=answer)

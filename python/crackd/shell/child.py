@@ -3,6 +3,7 @@
 import contextlib
 import signal
 import subprocess
+import time
 from typing import Any, Iterator, Sequence
 
 from ..channel import Channel
@@ -10,6 +11,8 @@ from ..server import TRIES, free_port, output_of
 from .texts import Ended, Interrupted, complain, fault_text, in_words
 
 SECONDS_OF_AN_END = 60
+# how long a server that is started anew tries to get the port, and how often
+SECONDS_OF_A_PORT, SECONDS_BETWEEN = 5, 0.05
 
 
 class Interrupts:
@@ -62,9 +65,22 @@ class Server:
                 return
             complaint = self.process.communicate()[1].strip()
             # another program may have taken the port meanwhile: try another one
-            if complaint != "crackd: refused 17":
+            if not is_of_port(complaint):
                 raise Ended(f"no server: {self.end_text(complaint)}")
         raise Ended("no server: no port was free")
+
+    def renew(self, words: Sequence[str]) -> None:
+        """Starts a server with these words on the same port, once this one has ended, which was sent `quit`."""
+        self.totals()
+        end = time.monotonic() + SECONDS_OF_A_PORT
+        while True:
+            self.process = self.started(words)
+            if self.has_begun():
+                return
+            complaint = self.process.communicate()[1].strip()
+            if not is_of_port(complaint) or time.monotonic() > end:
+                raise Ended(f"no server: {self.end_text(complaint)}")
+            time.sleep(SECONDS_BETWEEN)
 
     def started(self, words: Sequence[str]) -> subprocess.Popen[str]:
         """Starts the server's process."""
@@ -135,6 +151,11 @@ class Server:
         if self.process.poll() is None:
             self.process.kill()
         self.process.communicate()
+
+
+def is_of_port(complaint: str) -> bool:
+    """Whether a program complains that it can't listen on its port."""
+    return complaint.partition(":")[2].strip().partition(":")[0] == "refused 17"
 
 
 def channel_to(port: int, interrupts: Interrupts) -> Channel:

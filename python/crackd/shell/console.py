@@ -1,9 +1,9 @@
 """A shell for `crackd serve`: python3 -m crackd shell [--program PATH] [--limit N] [--cells N] [--life N] [--policy
-NAME] [SPLIT ..], or python3 -m crackd shell --port N
+NAME] [FILE] [SPLIT ..], or python3 -m crackd shell --port N [FILE]
 
-Without a port the shell starts its own server, which ends with it. On a terminal it prompts, explains refusals, reports
+Without a port the shell starts its own server, which ends with it. The rows of a CSV file are loaded first. On a terminal it prompts, explains refusals, reports
 how long each statement took, keeps typed lines in a file, and completes words with Tab; `help` lists the statements.
-Without a terminal it is a filter, which answers line by line. The exit status is 1 if there is no server, if the server
+Without a terminal it is a filter, which answers line by line, and names the lines that are no statements. The exit status is 1 if there is no server, if the server
 closed the connection, or if a filter had a refused statement or a failed command. It is 2 for a bad command line, and
 otherwise 0.
 """
@@ -18,16 +18,17 @@ import time
 from typing import IO, Any, Callable, Iterable, Iterator, Optional, Union
 
 from ..base import POLICIES
+from ..channel import Channel
 from ..errors import Disconnected
 from ..layout import rows_text
 from ..server import NoServer, called, find_program
 from . import modes, typing
 from .child import Interrupts, Server, channel_to
 from .session import HTTP, POLICY, Records, Reply, Session
+from .statements import MOST_LINE_BYTES, STATEMENTS, fault_in, help_of
 from .texts import GREATEST_KEY, HELP, Ended, Fault, Interrupted, Left, complain, fault_text, in_words, time_text
 
 PROMPT = "crackd> "
-MOST_LINE_BYTES = 200
 RANGED = (b"count", b"sum", b"select")
 GREATEST_PORT = 65535
 SECONDS_OF_A_PROGRESS = 0.1
@@ -90,17 +91,18 @@ class Shell:
         self.has_ended = self.bails = False
         self.mode = "lines"
         self.most_rows: Optional[int] = None
-        # the files whose lines are being run
+        # the files whose lines are being run, and the line that is being run, as complaints name it
         self.files: list[str] = []
+        self.place = ""
         self.of_files: dict[str, Callable[[str], None]] = {".load": self.load, ".save": self.save, ".read": self.read}
         self.others: dict[str, Callable[[str], None]] = {".layout": self.layout, ".help": self.help, ".quit": self.quit}
         self.others |= {".mode": self.set_mode, ".limit": self.set_limit, ".bail": self.set_bail}
 
     def run(self, lines: Iterable[bytes]) -> None:
         """Runs lines until one ends the session, or there are no more."""
-        for line in lines:
+        for number, line in enumerate(lines, 1):
             self.interrupts.forget()
-            faults = self.faults
+            faults, self.place = self.faults, f"line {number}"
             try:
                 self.obey(line)
             except Interrupted as it:
@@ -121,8 +123,8 @@ class Shell:
         name, _, argument = text.strip(b" ").partition(b" ")
         if name.startswith(b"."):
             self.command(os.fsdecode(name), os.fsdecode(argument.strip(b" ")))
-        elif ended(text) == b"help":
-            self.help()
+        elif ended(text).split(b" ")[0] == b"help":
+            self.command(".help", os.fsdecode(ended(text)[len(b"help") :].strip(b" ")))
         elif name or len(text) > MOST_LINE_BYTES:
             # the server answers nothing to a blank line
             statement = ended(text) if text.rstrip(b" ").endswith(b";") else text
@@ -157,18 +159,22 @@ class Shell:
         self.faults += reply.is_refusal
         self.has_ended = reply.lines == ["bye"]
         self.interrupts.check("the statement was answered; its reply isn't shown")
-        self.show(reply)
+        explained = explained_line(reply.lines[0], os.fsdecode(statement), bool(is_http))
+        self.show(reply, explained)
+        if reply.lines == ["refused 1"] and not self.is_terminal:
+            complain(f"{self.place}: {explained}")
 
-    def show(self, reply: Reply) -> None:
+    def show(self, reply: Reply, explained: str) -> None:
         """Shows a reply in the current mode.
 
-        On a terminal it also explains a refusal and shows the time: after a reply of one line, or below a longer one.
+        On a terminal it also shows the time: after a reply of one line, or below a longer one; and a refusal is
+        `explained`.
         """
         lines = modes.shown(reply.lines, self.mode, self.most_rows)
         if not self.is_terminal:
             print("\n".join(lines))
         elif len(lines) == 1:
-            self.say(in_words(lines[0]), reply.seconds)
+            self.say(explained if self.mode == "lines" else lines[0], reply.seconds)
         else:
             for line in lines:
                 self.interrupts.check("the rest isn't shown")
@@ -195,19 +201,23 @@ class Shell:
             raise Interrupted(f"{path} wasn't read") from None
 
     def load(self, path: str) -> None:
-        """Inserts the rows of a CSV file."""
+        """Inserts the rows of a CSV file: all, or none."""
         with self.waiting_for(path):
             file = open(path, encoding="utf-8-sig", errors="surrogateescape", newline="")
-        begun = time.perf_counter()
+        begun, progress = time.perf_counter(), Progress(self.is_terminal)
         with file:
-            records = Records(file)
-            loaded = self.session.load(records, Progress(self.is_terminal))
-        seconds = time.perf_counter() - begun
-        ended = loaded.end_text(records, self.interrupts.noted > 0)
-        if ended:
-            self.fail(ended)
-        else:
-            self.say(f"loaded {rows_text(loaded.placed)}", seconds)
+            columns = Records(file).read(self.interrupts, progress)
+        rows = self.session.load(columns, progress)
+        self.say(f"loaded {rows_text(rows)}", time.perf_counter() - begun)
+
+    def has_loaded(self, path: str) -> bool:
+        """Loads the file of the command line. Returns whether the shell goes on: on a terminal it always does."""
+        try:
+            self.command(".load", path)
+        except Interrupted as it:
+            complain(f"interrupted: {it}")
+            self.faults += 1
+        return self.is_terminal or not self.faults
 
     def save(self, path: str) -> None:
         """Writes all rows to a CSV file."""
@@ -228,6 +238,7 @@ class Shell:
         begun, answered, refused, faults, first = time.perf_counter(), self.answered, self.refused, self.faults, 0
         with self.within(path):
             for number, line in enumerate(lines, 1):
+                self.place = f"{path}: line {number}"
                 try:
                     self.obey(line)
                     self.interrupts.check("")
@@ -279,14 +290,28 @@ class Shell:
             raise Fault(".bail is on or off")
         self.bails = word == "on"
 
-    def help(self, _: str = "") -> None:
-        """Prints the help."""
-        print(HELP)
+    def help(self, name: str) -> None:
+        """Prints the help, or that for one statement or command."""
+        name = {"exit": "quit", "help": ".help"}.get(name, name)
+        if name and name not in STATEMENTS and name not in typing.COMMANDS:
+            raise Fault(f"there is no help for {name}; help lists the statements")
+        if name in STATEMENTS:
+            print(help_of(name))
+        else:
+            print("\n".join(it for it in HELP.splitlines() if not name or it.split(" ")[0] == name))
 
     def quit(self, _: str = "") -> None:
         """Ends the session."""
         self.session.ask("quit")
         self.has_ended = True
+
+
+def explained_line(line: str, statement: str, is_http: bool) -> str:
+    """The first line of a reply, in words if it is a refusal. A refusal with 1 says what is wrong with the statement."""
+    if line != "refused 1":
+        return in_words(line)
+    fault = "it looks like a line of HTTP, and wasn't sent" if is_http else fault_in(statement)
+    return f"{line}: {fault}" if fault else in_words(line)
 
 
 def ended(text: bytes) -> bytes:
@@ -336,21 +361,29 @@ def is_with_a_person() -> bool:
     return sys.stdin.isatty() and sys.stdout.isatty()
 
 
-def talk(port: int, policy: Optional[str], is_known: bool, interrupts: Interrupts) -> bool:
-    """Runs a session with the server at a port. Returns whether everything was done.
-
-    `policy` is the session's policy if `is_known`; else it is set first, unless it is None.
-    """
+def talk(session: Session, port: int, file: Optional[str], interrupts: Interrupts) -> bool:
+    """Runs a session with the server at a port, which begins with a load of `file`, if there is one. Returns whether
+    everything was done."""
     is_terminal = is_with_a_person()
-    with contextlib.closing(channel_to(port, interrupts)) as channel:
-        session = Session(channel, interrupts, policy if is_known else None)
-        if policy and not is_known:
-            session.demand(f"policy {policy}")
-        if is_terminal:
-            print(f"crackd on port {port}; help lists the statements, control-D ends")
-        shell = Shell(session, interrupts, is_terminal)
-        shell.run(typed_lines(interrupts) if is_terminal else given_lines(interrupts))
+    if is_terminal:
+        print(f"crackd on port {port}; help lists the statements, control-D ends")
+    shell = Shell(session, interrupts, is_terminal)
+    if file is not None and not shell.has_loaded(file):
+        shell.quit()
+        return False
+    shell.run(typed_lines(interrupts) if is_terminal else given_lines(interrupts))
     return is_terminal or not shell.faults
+
+
+def talk_to_other(options: Any, interrupts: Interrupts) -> bool:
+    """Runs a session with the server at the port of the options. Returns whether everything was done."""
+    session = Session(channel_to(options.port, interrupts), interrupts, None)
+    try:
+        if options.policy:
+            session.demand(f"policy {options.policy}")
+        return talk(session, options.port, options.file, interrupts)
+    finally:
+        session.channel.close()
 
 
 def program_of(path: Optional[str]) -> str:
@@ -368,8 +401,16 @@ def talk_to_own(options: Any, interrupts: Interrupts) -> bool:
     words = [word for name, value in named.items() if value for word in (name, value)]
     with interrupts.breaking_in():
         server = Server(program_of(options.program), [*words, *options.splits])
+
+    def renewed(splits: list[int]) -> Channel:
+        server.renew([*words, *map(str, splits)])
+        return channel_to(server.port, interrupts)
+
+    session = Session(
+        channel_to(server.port, interrupts), interrupts, policy, None if options.splits else renewed
+    )
     try:
-        is_done = talk(server.port, policy, True, interrupts)
+        is_done = talk(session, server.port, options.file, interrupts)
         totals = server.totals()
         if is_with_a_person():
             print(totals)
@@ -377,6 +418,7 @@ def talk_to_own(options: Any, interrupts: Interrupts) -> bool:
     except Disconnected as left:
         raise Left("; ".join(filter(None, [str(left) if isinstance(left, Left) else "", server.why()]))) from left
     finally:
+        session.channel.close()
         server.end()
 
 
@@ -405,9 +447,18 @@ def options_of(words: list[str]) -> Any:
         "[default: auto, for a server that is started]",
     )
     parser.add_argument(
-        "splits", metavar="SPLIT", nargs="*", help="where partitions begin: rising keys, each 1 to 18446744073709551615"
+        "words",
+        metavar="FILE | SPLIT",
+        nargs="*",
+        help="a CSV file whose rows are loaded first; where partitions begin: rising keys, each 1 to "
+        "18446744073709551615 [default: one partition, or splits that suit the first load]",
     )
     options = parser.parse_args(words)
+    options.splits = [it for it in options.words if it.isdecimal()]
+    files = [it for it in options.words if not it.isdecimal()]
+    if len(files) > 1:
+        parser.error(f"there can be one file, and splits are numbers: {' '.join(files)}")
+    options.file = files[0] if files else None
     if options.port is not None and not 1 <= options.port <= GREATEST_PORT:
         parser.error(f"a port must be 1 to {GREATEST_PORT}")
     if options.port is not None and (
@@ -423,11 +474,7 @@ def main(words: list[str]) -> int:
     if isinstance(sys.stdout, io.TextIOWrapper):
         sys.stdout.reconfigure(errors="backslashreplace")
     try:
-        is_done = (
-            talk_to_own(options, interrupts)
-            if options.port is None
-            else talk(options.port, options.policy, False, interrupts)
-        )
+        is_done = (talk_to_own if options.port is None else talk_to_other)(options, interrupts)
         sys.stdout.flush()
         return 0 if is_done else 1
     except Disconnected as left:

@@ -1,17 +1,20 @@
 """The shell's session with a server: single statements, loads of CSV, layouts, and saves of all rows as CSV."""
 
+import array
 import csv
 import dataclasses
 import itertools
 import os
 import re
 import time
-from typing import IO, Any, Iterable, Iterator, Optional, Sequence, Union
+from typing import IO, Any, Callable, Iterable, Iterator, Optional, Sequence, Union
 
+from ..base import MOST_PARTS
 from ..channel import Channel
 from ..errors import Disconnected
+from ..keys import quantiles
 from ..layout import PartLayout, rows_text
-from .texts import GREATEST_KEY, GREATEST_PAYLOAD, LEAST_PAYLOAD, Fault, Left, in_words
+from .texts import GREATEST_KEY, GREATEST_PAYLOAD, LEAST_PAYLOAD, Fault, Interrupted, Left, in_words
 
 # the default policy of a server that the shell starts, and the policy for a load into a server that already ran
 POLICY = "auto"
@@ -26,6 +29,9 @@ HTTP = re.compile(rb" *(?:(?:GET|POST|HEAD|PUT|DELETE|OPTIONS|CONNECT|TRACE|PATC
 # a load sends `ROWS_AT_ONCE` rows at a time, and more only while at most `ROWS_UNANSWERED` are unanswered
 ROWS_AT_ONCE = 2000
 ROWS_UNANSWERED = 20_000
+# a load into a new table makes a partition for each so many rows
+ROWS_A_PART = 65_536
+NOTHING_LOADED = "nothing is loaded"
 
 
 @dataclasses.dataclass
@@ -104,45 +110,82 @@ class Records:
         self.fault = fault and f"record {self.number + 1}: {fault}"
         return rows
 
+    def read(self, interrupts: Any, progress: Any) -> "Columns":
+        """All keys and payloads. Raises a `Fault` at the first record that isn't a row."""
+        columns = Columns(self)
+        try:
+            while rows := self.next_rows(interrupts):
+                interrupts.check(NOTHING_LOADED)
+                columns.keys.extend(int(key) for key, _ in rows)
+                columns.payloads.extend(int(payload) for _, payload in rows)
+                progress.show(f"{rows_text(len(columns.keys))} read")
+                if self.fault:
+                    break
+        finally:
+            progress.clear()
+        interrupts.check(NOTHING_LOADED)
+        if self.fault:
+            raise Fault(f"{self.fault}; {NOTHING_LOADED}")
+        return columns
 
-@dataclasses.dataclass
+
+class Columns:
+    """The keys and the payloads of a file."""
+
+    def __init__(self, records: Records) -> None:
+        self.records, self.keys, self.payloads = records, array.array("Q"), array.array("q")
+
+    def statements(self, begin: int) -> bytes:
+        """The inserts of the next rows, from this one on."""
+        end = begin + ROWS_AT_ONCE
+        numbers = zip(self.keys[begin:end], self.payloads[begin:end])
+        return "".join(["insert %d %d\n" % it for it in numbers]).encode("ascii")
+
+    def splits(self) -> list[int]:
+        """Splits that divide the keys evenly: a partition for each `ROWS_A_PART` rows, and `MOST_PARTS` at most."""
+        parts = min(MOST_PARTS, -(-len(self.keys) // ROWS_A_PART))
+        return quantiles(self.keys, parts) if parts > 1 else []
+
+
 class Loaded:
-    """The state of a load: the numbers of rows sent, answered and inserted; the first refusal, and the number of rows
-    inserted before it."""
+    """The state of a load: how many rows were sent and answered, the numbers of those that were inserted, and the first
+    refusal, with the number of rows answered before it."""
 
-    sent: int = 0
-    answered: int = 0
-    placed: int = 0
-    refusal: str = ""
-    before: int = 0
+    def __init__(self) -> None:
+        self.sent = self.answered = self.before = 0
+        self.refusal = ""
+        self.parts, self.serials = array.array("Q"), array.array("Q")
+
+    @property
+    def placed(self) -> int:
+        """How many rows were inserted."""
+        return len(self.serials)
 
     def take(self, lines: Sequence[str]) -> None:
         """Counts the replies to inserts, and keeps the first refusal."""
         for line in lines:
             if line.startswith("row "):
-                self.placed += 1
+                part, _, serial = line[4:].partition(".")
+                self.parts.append(int(part))
+                self.serials.append(int(serial))
             elif not self.refusal:
                 self.refusal, self.before = line, self.placed
         self.answered += len(lines)
-
-    def end_text(self, records: Records, is_interrupted: bool) -> str:
-        """Why the load ended early, and which rows were loaded. Empty if all rows were loaded."""
-        if self.refusal:
-            later = self.placed - self.before
-            also = f"; loaded after it, since already sent: {later}" if later else ""
-            number = self.before + 1 + records.has_header
-            return f"record {number}: {in_words(self.refusal)}; loaded before it: {rows_text(self.before)}{also}"
-        if is_interrupted:
-            return f"interrupted: loaded {rows_text(self.placed)}"
-        return f"{records.fault}; loaded before it: {rows_text(self.placed)}" if records.fault else ""
 
 
 class Session:
     """A session with a server, over a channel."""
 
-    def __init__(self, channel: Channel, interrupts: Any, policy: Optional[str]):
-        # `policy` is None if the session's policy isn't known
-        self.channel, self.interrupts, self.policy = channel, interrupts, policy
+    def __init__(
+        self,
+        channel: Channel,
+        interrupts: Any,
+        policy: Optional[str],
+        renewed: Optional[Callable[[list[int]], Channel]] = None,
+    ):
+        # `policy` is None if the session's policy isn't known; `renewed` starts the server anew with other splits
+        self.channel, self.interrupts, self.policy, self.renewed = channel, interrupts, policy, renewed
+        self.is_written = False
 
     def ask(self, statement: Union[str, bytes]) -> Reply:
         """Sends a statement and waits for all lines of its reply."""
@@ -155,6 +198,7 @@ class Session:
         words = lines[0].split(" ")
         if words[0] == "policy":
             self.policy = words[-1]
+        self.is_written |= words[0] == "row"
         return Reply(lines, time.perf_counter() - begun)
 
     def demand(self, statement: str) -> Reply:
@@ -164,32 +208,72 @@ class Session:
             raise Fault(f"{statement}: {in_words(reply.lines[0])}")
         return reply
 
-    def load(self, records: Records, progress: Any) -> Loaded:
-        """Sends an insert for each row of the records, and counts the replies.
+    def load(self, columns: Columns, progress: Any) -> int:
+        """Inserts the rows of a file, and returns their number. If one is refused, or after a control-C, it deletes
+        those that were inserted.
 
-        After a control-C it sends no more, and waits for the replies to what was sent. If the policy isn't known, it
-        first sends `policy auto`, so that the next query merges all rows at once.
+        If the policy isn't known, it first sends `policy auto`, so that the next query merges all rows at once. A
+        server of the shell's own to which nothing was ever written is started anew with splits that suit the keys.
         """
         if self.policy is None:
             self.demand(f"policy {POLICY}")
-        loaded = Loaded()
+        self.split_for(columns)
+        loaded, left = Loaded(), ""
         try:
-            while not (loaded.refusal or records.fault or self.interrupts.noted):
-                rows = records.next_rows(self.interrupts)
-                if not rows:
-                    break
-                self.channel.send(
-                    ("insert %s %s\n" * len(rows) % tuple(itertools.chain.from_iterable(rows))).encode("ascii")
-                )
-                loaded.sent += len(rows)
+            while loaded.sent < len(columns.keys) and not (loaded.refusal or self.interrupts.noted):
+                self.channel.send(columns.statements(loaded.sent))
+                loaded.sent = min(loaded.sent + ROWS_AT_ONCE, len(columns.keys))
                 self.settle(loaded, ROWS_UNANSWERED)
                 progress.show(rows_text(loaded.placed))
             self.settle(loaded, 0)
-        except Disconnected as left:
-            raise Left(f"{rows_text(loaded.placed)} had been answered") from left
+            self.is_written |= loaded.placed > 0
+            if loaded.refusal or self.interrupts.noted:
+                left = self.take_back(loaded)
+        except Disconnected as error:
+            raise Left(f"{rows_text(loaded.placed)} had been answered") from error
         finally:
             progress.clear()
-        return loaded
+        if loaded.refusal:
+            number = loaded.before + 1 + columns.records.has_header
+            raise Fault(f"record {number}: {in_words(loaded.refusal)}; {left}")
+        if left:
+            raise Interrupted(left)
+        return loaded.placed
+
+    def split_for(self, columns: Columns) -> None:
+        """Starts the shell's own server anew with splits that suit these keys, if nothing was ever written to it."""
+        splits = columns.splits() if self.renewed and not self.is_written else []
+        if self.renewed and splits:
+            policy = self.policy
+            self.ask("quit")
+            self.channel.close()
+            self.channel = self.renewed(splits)
+            self.demand(f"policy {policy}")
+
+    def take_back(self, loaded: Loaded) -> str:
+        """Deletes the rows of a load. Returns what is left of them, in words."""
+        rows, refusal, tries = list(zip(loaded.parts, loaded.serials)), "", 0
+        while rows and tries < 2:
+            refused = self.deleted(rows)
+            # after a full history the same deletes are tried again
+            tries = tries + 1 if len(refused) == len(rows) else 0
+            rows, refusal = [row for row, _ in refused], refused[0][1] if refused else ""
+        return f"{rows_text(len(rows))} of it couldn't be deleted: {in_words(refusal)}" if rows else NOTHING_LOADED
+
+    def deleted(self, rows: list[tuple[int, int]]) -> list[tuple[tuple[int, int], str]]:
+        """Deletes rows. Returns those whose deletion was refused, with the refusal. Makes room in full histories."""
+        refused = []
+        for at in range(0, len(rows), ROWS_UNANSWERED):
+            some = rows[at : at + ROWS_UNANSWERED]
+            self.channel.send("".join(["delete %d.%d\n" % it for it in some]).encode("ascii"))
+            lines: list[str] = []
+            while self.channel.unsent or len(lines) < len(some):
+                self.channel.step()
+                lines += self.channel.lines_given()
+            refused += [(row, line) for row, line in zip(some, lines) if line.startswith("refused")]
+        for part in sorted({part for (part, _), line in refused if line.startswith("refused 6 ")}):
+            self.ask(f"checkpoint {part}")
+        return refused
 
     def settle(self, loaded: Loaded, most: int) -> None:
         """Waits until everything is sent, and at most `most` rows are unanswered."""

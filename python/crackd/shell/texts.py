@@ -51,17 +51,17 @@ quit              ends the session; so does exit
 A ; at the end of a statement is ignored. Keys are whole numbers from 0 to 18446744073709551615,
 payloads from -9223372036854775808 to 9223372036854775807.
 
-.load FILE        inserts the rows of CSV, with or without the header key,payload
+.load FILE        inserts the rows of CSV, with or without the header key,payload: all, or none
 .save FILE        writes all rows as CSV
 .read FILE        runs the lines of a file
 .layout [P]       draws the columns of all partitions, or of one
 .mode NAME        how replies are shown: lines as the server gives them, csv, or json with a value a line
 .limit N          a select shows at most N rows; .limit off shows all
 .bail on          a file or a pipe ends at a refused statement or a failed command; .bail off: it goes on
-.help             prints this; so does help
+.help [NAME]      prints this, or explains one statement; so does help
 .quit             ends the session; so does control-D
 
-Control-C ends what is running; rows that were answered stay."""
+Control-C ends what is running; rows of earlier statements stay."""
 
 
 class Fault(Exception):

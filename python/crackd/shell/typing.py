@@ -27,6 +27,7 @@ WORDS = [
 COMMANDS = [".load", ".save", ".read", ".layout", ".mode", ".limit", ".bail", ".help", ".quit"]
 # the words that may follow a word
 AFTER = {"policy": list(POLICIES), ".mode": list(MODES), ".bail": ["on", "off"], ".limit": ["off"]}
+AFTER |= {name: WORDS + COMMANDS for name in ("help", ".help")}
 OF_FILES = (".load", ".save", ".read")
 MOST_KEPT = 1000
 
