@@ -8,7 +8,6 @@ or numpy dates. Payloads are signed 64-bit integers. `load_csv` reads a table fr
 from .aio import AsyncTable, connect_async
 from .base import Row, Rows, row_text
 from .client import Client, connect
-from .csvfile import CsvError, load_csv
 from .errors import (
     BadLimit,
     BadSplits,
@@ -28,9 +27,11 @@ from .errors import (
 )
 from .layout import Layout, PartLayout, Piece
 from .library import version
+from .loading import load_csv
 from .rows import Rebalanced
 from .saved import BadSave
 from .server import NoServer, Server, serve
+from .source import CsvError
 from .table import Table
 
 __version__ = "0.1"

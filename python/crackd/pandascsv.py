@@ -10,39 +10,45 @@ from __future__ import annotations
 import csv
 import importlib
 import importlib.util
-import os
 import sys
-from typing import Any, Optional, Sequence
+from typing import Any, NamedTuple, Optional, Sequence
 
 from .arrays import np
+from .fields import GAPS
 
 # importing pandas takes as long as reading a file of about this many bytes without it
 LEAST_BYTES = 8_000_000
-CHARACTERS_AT_ONCE = 1 << 20
+CHARACTERS_AT_ONCE = 1 << 18
 FIELDS_AT_ONCE = 20_000
+# a longer integer with a leading zero isn't recognized at once
+MOST_DIGITS = 40
 
 
 def columns_of_pandas(file: Any, columns: Sequence[tuple[Any, Any]]) -> Optional[list[Any]]:
     """The numbers in these columns of a `CsvFile`, as arrays, or None if the file must be read record by record."""
-    pandas = pandas_for(file.path)
+    pandas = pandas_for(file.source)
     if pandas is None or not file.delimiter.isascii():
         return None
     found = fields_of(file, columns)
-    if found is None or not is_text(file):
+    is_strict = any(column.is_strict and not is_read_as_text(column) for _, column in columns)
+    looks = None if found is None else look_at(file, is_strict)
+    if found is None or looks is None:
         return None
     is_header, places = found
-    texts: dict[int, type[str]] = {at: str for at, (_, column) in zip(places, columns) if is_read_as_text(column)}
+    texts: dict[int, type[str]] = {
+        at: str for at, (_, it) in zip(places, columns) if is_read_as_text(it) or it.is_strict and looks.has_zeros
+    }
     try:
         frame = read(pandas, file, is_header, places, texts)
-        return [numbers_of(column, frame[at].to_numpy()) for at, (_, column) in zip(places, columns)]
-    except (ValueError, TypeError, OverflowError, LookupError):
+        return numbers_of_frame(file, frame, is_header, list(zip(places, (column for _, column in columns))))
+    except (ValueError, TypeError, AttributeError, OverflowError, LookupError):
         return None
 
 
-def pandas_for(path: str) -> Any:
+def pandas_for(source: Any) -> Any:
     """The module pandas, or None if it isn't installed or the file is too small to be worth importing it."""
     if np is None or "pandas" not in sys.modules and (
-        os.path.getsize(path) < LEAST_BYTES or importlib.util.find_spec("pandas") is None
+        source.size() < LEAST_BYTES or importlib.util.find_spec("pandas") is None
     ):
         return None
     try:
@@ -53,7 +59,7 @@ def pandas_for(path: str) -> Any:
 
 def fields_of(file: Any, columns: Sequence[tuple[Any, Any]]) -> Optional[tuple[bool, list[int]]]:
     """Whether the first line is a header, and the numbers of the columns. None if that line isn't a whole record."""
-    with open(file.path, encoding=file.encoding, newline="") as text:
+    with file.source.text() as text:
         records = csv.reader(text, delimiter=file.delimiter)
         try:
             first = next(records, None)
@@ -65,10 +71,64 @@ def fields_of(file: Any, columns: Sequence[tuple[Any, Any]]) -> Optional[tuple[b
     return is_header, [file._place(place, first if is_header else []) for place, _ in columns]
 
 
-def is_text(file: Any) -> bool:
-    """Whether a file has no zero character, at which pandas would end a field. Raises an error for a wrong encoding."""
-    with open(file.path, encoding=file.encoding, newline="") as text:
-        return all("\0" not in it for it in iter(lambda: text.read(CHARACTERS_AT_ONCE), ""))
+class Looks(NamedTuple):
+    """What a file looks like: `has_zeros` says whether an integer in it has a leading zero."""
+
+    has_zeros: bool
+
+
+def look_at(file: Any, is_strict: bool) -> Optional[Looks]:
+    """What a file looks like. None if pandas may read it wrongly. Raises an error for a wrong encoding.
+
+    At a zero character pandas would end a field. A carriage return alone ends a line, but pandas may shift the fields
+    after it. Only with `is_strict` leading zeros are looked for, which pandas would read.
+    """
+    before, has_zeros = "\n", False
+    with file.source.text() as text:
+        while more := text.read(CHARACTERS_AT_ONCE):
+            if "\0" in more or has_return(before, more):
+                return None
+            has_zeros = has_zeros or is_strict and has_leading_zeros(before + more, file.delimiter)
+            before = (before + more)[-MOST_DIGITS - 8 :]
+    if before.endswith("\r"):
+        return None
+    return Looks(has_zeros or is_strict and has_leading_zeros(before + "\n", file.delimiter))
+
+
+def has_leading_zeros(text: str, delimiter: str) -> bool:
+    """Whether a field in a text is an integer with a leading zero, in any column. The end of the text ends no field."""
+    letters = np.frombuffer(text.encode("ascii", "replace"), np.uint8)
+    ends = [ord(it) for it in delimiter + '\r\n" \t']
+    is_begin = letters[:-2] < ord(".")
+    if ord(delimiter) >= ord("."):
+        is_begin |= letters[:-2] == ord(delimiter)
+    is_begin &= letters[1:-1] == ord("0")
+    at = np.flatnonzero(is_begin) + 1
+    at = at[are_digits(letters[at + 1])]
+    if not len(at):
+        return False
+    before = letters[at - 1]
+    # before a sign the field begins, or it isn't the integer's sign
+    is_sign = (before == ord("-")) | (before == ord("+"))
+    at = at[np.isin(np.where(is_sign, letters[at - 2], before), ends)]
+    end = at + 1
+    for _ in range(MOST_DIGITS):
+        end = end + are_digits(letters[np.minimum(end, len(letters) - 1)])
+    end = end[end < len(letters)]
+    return bool((np.isin(letters[end], ends) | are_digits(letters[end])).any())
+
+
+def are_digits(letters: Any) -> Any:
+    """Whether each of these characters is a digit."""
+    return letters - np.uint8(ord("0")) <= 9
+
+
+def has_return(before: str, more: str) -> bool:
+    """Whether a carriage return stands without a line feed in a text or just before it."""
+    if before.endswith("\r") and not more.startswith("\n"):
+        return True
+    found = more.count("\r")
+    return bool(found) and found != more.count("\r\n") + more.endswith("\r")
 
 
 def read(pandas: Any, file: Any, is_header: bool, places: list[int], texts: dict[int, type[str]]) -> Any:
@@ -77,18 +137,54 @@ def read(pandas: Any, file: Any, is_header: bool, places: list[int], texts: dict
     how["float_precision"] = "round_trip"
     how |= {"engine": "c", "low_memory": False, "header": None, "skiprows": int(is_header)}
     # an open file is passed, since pandas guesses from a path whether the file is compressed
-    with open(file.path, encoding=file.encoding, newline="") as text:
+    with file.source.text() as text:
         return pandas.read_csv(text, sep=file.delimiter, usecols=sorted(set(places)), dtype=texts or None, **how)
 
 
 def is_read_as_text(column: Any) -> bool:
-    """Whether a column is read as text, since pandas can't read it exactly: dates and decimals."""
-    return column.format is not None or column.decimals > 0
+    """Whether a column is read as text, since pandas can't read it exactly: dates, decimals and other decimal signs."""
+    return column.format is not None or column.decimals > 0 or column.is_scientific or column.sign != "."
+
+
+def numbers_of_frame(file: Any, frame: Any, is_header: bool, columns: Sequence[tuple[int, Any]]) -> Optional[list[Any]]:
+    """The numbers of the columns at these places. Rows with a gap are left out if the file is read so."""
+    items = [frame[at].to_numpy() for at, _ in columns]
+    kept = kept_rows(items) if file.is_skipping else None
+    if kept is not None:
+        gaps = np.flatnonzero(~kept)
+        if not have_all_fields(file, is_header, len(kept), gaps, max(at for at, _ in columns)):
+            return None
+        file.gaps = gaps
+        items = [it[kept] for it in items]
+    return [numbers_of(column, it) for (_, column), it in zip(columns, items)]
+
+
+def kept_rows(columns: Sequence[Any]) -> Any:
+    """An array that says which rows have no gap, or None if no row has one."""
+    kept = np.ones(len(columns[0]), np.bool_)
+    for items in columns:
+        if items.dtype == object:
+            kept &= np.fromiter((it.strip() not in GAPS for it in items), np.bool_, len(items))
+    return None if kept.all() else kept
+
+
+def have_all_fields(file: Any, is_header: bool, rows: int, gaps: Any, last: int) -> bool:
+    """Whether each record with a gap is a line of its own that has the field number `last`.
+
+    pandas adds fields to a record that is too short. `rows` is the number of all records.
+    """
+    is_wanted = np.zeros(rows + is_header, np.bool_)
+    is_wanted[gaps + is_header] = True
+    with file.source.text() as text:
+        lines = [line for is_gap, line in zip(is_wanted.tolist(), text) if is_gap]
+        if next(iter(text), None) is not None or len(lines) != len(gaps):
+            return False
+    return all(len(it) > last for it in csv.reader(lines, delimiter=file.delimiter))
 
 
 def numbers_of(column: Any, items: Any) -> Any:
     """The numbers of a column. Raises ValueError if it has anything else than the numbers asked for."""
-    if is_read_as_text(column):
+    if items.dtype == object:
         return numbers_of_text(column, items)
     if column.is_float:
         if items.dtype.kind not in "iuf" or not np.isfinite(items).all():
@@ -100,7 +196,7 @@ def numbers_of(column: Any, items: Any) -> Any:
 
 
 def numbers_of_text(column: Any, items: Any) -> Any:
-    """The numbers of dates or decimals that were read as text."""
+    """The numbers of a column that was read as text."""
     blocks = (items[at : at + FIELDS_AT_ONCE].tolist() for at in range(0, len(items), FIELDS_AT_ONCE))
-    dtype = np.int64 if column.code == "q" else np.uint64
+    dtype = {"q": np.int64, "Q": np.uint64, "d": np.float64}[column.code]
     return np.concatenate([np.array(column.read_all(it), dtype) for it in blocks])
