@@ -5,21 +5,21 @@ from __future__ import annotations
 import asyncio
 import collections
 import contextlib
-import fractions
 import inspect
-from typing import Any, AsyncIterator, Optional, Sequence
+from typing import Any, AsyncIterator, Callable, Optional, Sequence
 
 from . import wire
 from .base import POLICIES, POLICY
 from .channel import BYTES_AT_ONCE, LEFT, Lines, checked_timeout
+from .decimals import INTEGERS, PayloadType
 from .errors import Closed, Disconnected, Error, Forked, TimedOut
 from .forks import OF_THE_PARENT
-from .keys import Keys
+from .keys import Keys, keys_for
 from .layout import Layout
 from .primitives import Answer, Steps
 from .remote import RemoteTable
 from .rows import CHUNK, Rebalanced, Row, Rows, checked_size
-from .typed import Counts, Flags, Progress, RowNumbers, Self, Sums
+from .typed import Counts, Flags, Mean, OnePayload, Progress, RowNumbers, Self, Sums
 
 
 class Waiting:
@@ -154,8 +154,9 @@ class Line:
 class Shared(RemoteTable):
     """A table over a `Line`. Its methods are those of `AnyTable`, but return awaitables."""
 
-    def __init__(self, line: Line, keys: Keys, policy: str, peer: str):
+    def __init__(self, line: Line, keys: Keys, policy: str, peer: str, payloads: PayloadType = INTEGERS):
         self.line, self._keys, self._policy, self._peer, self._lock = line, keys, policy, peer, None
+        self._payloads = payloads
 
     async def _say(self, steps: wire.Exchanges) -> Any:
         """Runs a conversation with the server, concurrently with those of other tasks."""
@@ -187,6 +188,12 @@ class Shared(RemoteTable):
                     asked = steps.send(answer)
         except StopIteration as done:
             return done.value
+
+    def _then(self, answer: Any, call: Callable[[Any], Any]) -> Any:
+        return self._later(answer, call)
+
+    async def _later(self, answer: Any, call: Callable[[Any], Any]) -> Any:
+        return call(await answer)
 
     def _check_open(self) -> None:
         self.line.check_open()
@@ -236,6 +243,16 @@ class AsyncTable:
         return self._table.key_type
 
     @property
+    def key_decimals(self) -> int:
+        """The number of decimal places of the keys."""
+        return self._table.key_decimals
+
+    @property
+    def payload_decimals(self) -> int:
+        """The number of decimal places of the payloads."""
+        return self._table.payload_decimals
+
+    @property
     def policy(self) -> str:
         """How queries merge pending rows."""
         return self._table.policy
@@ -260,7 +277,7 @@ class AsyncTable:
 
     # The methods from here on have the docstrings of the synchronous methods, which the end of this file gives them.
 
-    async def insert(self, key: Any, payload: int) -> int:
+    async def insert(self, key: Any, payload: Any) -> int:
         return await _awaited(self._table.insert(key, payload))
 
     async def insert_many(self, keys: Any, payloads: Any) -> RowNumbers:
@@ -283,7 +300,7 @@ class AsyncTable:
     async def delete_range(self, low: Any = None, high: Any = None) -> int:
         return await _awaited(self._table.delete_range(low, high))
 
-    async def update(self, row: int, key: Any, payload: int) -> bool:
+    async def update(self, row: int, key: Any, payload: Any) -> bool:
         return await _awaited(self._table.update(row, key, payload))
 
     async def update_many(self, rows: Any, keys: Any, payloads: Any) -> Flags:
@@ -296,8 +313,8 @@ class AsyncTable:
         moving.add_done_callback(self._moving.discard)
         return await asyncio.shield(moving)
 
-    async def get(self, row: int) -> Optional[Row]:
-        return await _awaited(self._table.get(row))
+    async def get(self, row: int, *, raw: bool = False) -> Optional[Row]:
+        return await _awaited(self._table.get(row, raw=raw))
 
     async def count(self, low: Any = None, high: Any = None) -> int:
         return await _awaited(self._table.count(low, high))
@@ -308,20 +325,22 @@ class AsyncTable:
     async def count_by(self, edges: Sequence[Any]) -> Counts:
         return await _awaited(self._table.count_by(edges))
 
-    async def sum(self, low: Any = None, high: Any = None) -> int:
-        return await _awaited(self._table.sum(low, high))
+    async def sum(self, low: Any = None, high: Any = None, *, raw: bool = False) -> OnePayload:
+        return await _awaited(self._table.sum(low, high, raw=raw))
 
-    async def sum_many(self, lows: Optional[Sequence[Any]], highs: Optional[Sequence[Any]]) -> list[int]:
-        return await _awaited(self._table.sum_many(lows, highs))
+    async def sum_many(
+        self, lows: Optional[Sequence[Any]], highs: Optional[Sequence[Any]], *, raw: bool = False
+    ) -> list[OnePayload]:
+        return await _awaited(self._table.sum_many(lows, highs, raw=raw))
 
-    async def sum_by(self, edges: Sequence[Any]) -> Sums:
-        return await _awaited(self._table.sum_by(edges))
+    async def sum_by(self, edges: Sequence[Any], *, raw: bool = False) -> Sums:
+        return await _awaited(self._table.sum_by(edges, raw=raw))
 
-    async def mean(self, low: Any = None, high: Any = None) -> Optional[fractions.Fraction]:
-        return await _awaited(self._table.mean(low, high))
+    async def mean(self, low: Any = None, high: Any = None, *, raw: bool = False) -> Optional[Mean]:
+        return await _awaited(self._table.mean(low, high, raw=raw))
 
-    async def select(self, low: Any = None, high: Any = None) -> Rows:
-        return await _awaited(self._table.select(low, high))
+    async def select(self, low: Any = None, high: Any = None, *, raw: bool = False) -> Rows:
+        return await _awaited(self._table.select(low, high, raw=raw))
 
     async def settle(self) -> None:
         settled: Any = self._table._settle()
@@ -342,15 +361,16 @@ class AsyncTable:
     async def close(self) -> None:
         await _awaited(self._table.close())
 
-    async def select_chunks(self, low: Any = None, high: Any = None, size: int = CHUNK) -> AsyncIterator[Rows]:
+    async def select_chunks(
+        self, low: Any = None, high: Any = None, size: int = CHUNK, *, raw: bool = False
+    ) -> AsyncIterator[Rows]:
         first, end = self._table._keys.ends(low, high)
         checked_size(size)
         if first >= end:
             await self._table._nothing(None)
             return
         for part in await self._table._drive(self._table._parts_steps(first, end)):
-            rows, keys, payloads = await self._table._select(*part)
-            for chunk in Rows(rows, self._table._keys.back(keys), payloads).chunks(size):
+            for chunk in self._table._rows_of(await self._table._select(*part), raw).chunks(size):
                 yield chunk
 
     def __repr__(self) -> str:
@@ -381,6 +401,8 @@ async def connect_async(
     port: int = 4000,
     *,
     key_type: Any = "uint64",
+    key_decimals: Optional[int] = None,
+    payload_decimals: Optional[int] = None,
     policy: str = POLICY,
     timeout: Optional[float] = None,
 ) -> AsyncTable:
@@ -390,13 +412,14 @@ async def connect_async(
     """
     if policy not in POLICIES:
         raise ValueError(f"policy must be one of {', '.join(POLICIES)}, not {policy}")
-    kind, timeout = Keys.named(key_type), checked_timeout(timeout)
+    kind, payloads = keys_for((), key_type, key_decimals)[0], PayloadType(payload_decimals)
+    timeout = checked_timeout(timeout)
     try:
         reader, writer = await asyncio.wait_for(asyncio.open_connection(host, port), timeout)
     except (OSError, asyncio.TimeoutError) as error:
         fault = TimedOut if isinstance(error, (TimeoutError, asyncio.TimeoutError)) else Disconnected
         raise fault(f"no server at {host}, port {port}: {getattr(error, 'strerror', None) or error}") from error
-    shared = Shared(Line(reader, writer, timeout), kind, policy, f"{host}:{port}")
+    shared = Shared(Line(reader, writer, timeout), kind, policy, f"{host}:{port}", payloads)
     table = AsyncTable(shared)
     try:
         await _awaited(shared._begin())

@@ -27,6 +27,10 @@ MOST_SHOWN = 40
 DTYPES = {"Q": "uint64", "q": "int64", "I": "uint32", "B": "uint8", "d": "float64"}
 
 
+class Given:
+    """Items in a form of this package's own, which isn't an array and not a list."""
+
+
 def is_array(it: Any) -> bool:
     """Whether this is a numpy array or can be converted to one, like a pandas column."""
     return np is not None and (isinstance(it, (np.ndarray, np.generic)) or hasattr(it, "__array__"))
@@ -66,7 +70,12 @@ def _of_pandas(it: Any, dtype: Any) -> Any:
 
 
 def items_of(it: Any, what: str) -> Any:
-    """Items as a numpy array or a list. An array of objects becomes a list. Bytes and text raise TypeError."""
+    """Items as a numpy array or a list. An array of objects becomes a list. Bytes and text raise TypeError.
+
+    What this package made itself, such as `Scaled`, is returned as it is.
+    """
+    if isinstance(it, Given):
+        return it
     if isinstance(it, (str, bytes, bytearray)) or isinstance(it, memoryview) and it.itemsize == 1:
         raise TypeError(f"{what} must be in a list or an array, not in {type(it).__name__}")
     if not is_array(it):

@@ -11,8 +11,8 @@ from .errors import OutOfMemory
 from .layout import Layout
 from .primitives import Steps
 from .questions import Questions
-from .rows import SERIAL, SHIFT, Row, Rows, payload_of, row_of, row_text
-from .typed import Counts, Flags, Progress, RowNumbers, Self
+from .rows import SERIAL, SHIFT, Row, Rows, row_of, row_text
+from .typed import Counts, Flags, OnePayload, Progress, RowNumbers, Self
 
 __all__ = ["SERIAL", "SHIFT", "AnyTable", "Row", "Rows", "parts_for", "row_of", "row_text"]
 
@@ -36,9 +36,9 @@ class AnyTable(Questions):
     statement.
     """
 
-    def insert(self, key: Any, payload: int) -> int:
+    def insert(self, key: Any, payload: Any) -> int:
         """Inserts a row. Returns its number."""
-        return self._insert(self._keys.one(key), payload_of(payload))
+        return self._insert(self._keys.one(key), self._payloads.one(payload))
 
     def insert_many(self, keys: Any, payloads: Any) -> RowNumbers:
         """Inserts a row for each key and payload.
@@ -66,7 +66,7 @@ class AnyTable(Questions):
         """The keys as numbers, and the payloads as an array. Raises ValueError if they differ in length."""
         if len(keys) != len(payloads):
             raise ValueError(f"{len(keys)} keys and {len(payloads)} payloads")
-        return self._keys.many(keys), ints("q", payloads, "payloads")
+        return self._keys.many(keys), self._payloads.many(payloads)
 
     def delete(self, row: int) -> bool:
         """Deletes a row. Returns whether it existed."""
@@ -80,12 +80,12 @@ class AnyTable(Questions):
         found: Flags = flags((yield call()))
         return found
 
-    def update(self, row: int, key: Any, payload: int) -> bool:
+    def update(self, row: int, key: Any, payload: Any) -> bool:
         """Gives a row a new key and payload. Returns whether the row exists.
 
         Raises `WrongPartition` if the key belongs to another partition; `move` takes a row there.
         """
-        return self._update(row_of(row), self._keys.one(key), payload_of(payload))
+        return self._update(row_of(row), self._keys.one(key), self._payloads.one(payload))
 
     def update_many(self, rows: Any, keys: Any, payloads: Any) -> Flags:
         """Updates rows in order. Returns an array of bool: whether each row exists.
@@ -94,7 +94,7 @@ class AnyTable(Questions):
         """
         if not len(rows) == len(keys) == len(payloads):
             raise ValueError(f"{len(rows)} row numbers, {len(keys)} keys and {len(payloads)} payloads")
-        words = ints("Q", rows, "row numbers"), self._keys.many(keys), ints("q", payloads, "payloads")
+        words = ints("Q", rows, "row numbers"), self._keys.many(keys), self._payloads.many(payloads)
         return self._drive(self._flags_steps(lambda: self._update_many(*words)))
 
     def count(self, low: Any = None, high: Any = None) -> int:
@@ -109,30 +109,43 @@ class AnyTable(Questions):
         """
         return self._count_many(*self._keys.ends_many(lows, highs))
 
-    def sum(self, low: Any = None, high: Any = None) -> int:
-        """Returns the exact sum of the payloads of the rows with keys in the range."""
+    def sum(self, low: Any = None, high: Any = None, *, raw: bool = False) -> OnePayload:
+        """Returns the exact sum of the payloads of the rows with keys in the range.
+
+        If payloads have decimal places this is a `decimal.Decimal`, or with `raw` the integer that stands for it.
+        """
         first, end = self._keys.ends(low, high)
-        return self._sum(first, end - 1) if first < end else self._nothing(0)
+        found = self._sum(first, end - 1) if first < end else self._nothing(0)
+        return found if raw or not self._payloads.decimals else self._then(found, self._payloads.back_one)
 
-    def sum_many(self, lows: Optional[Sequence[Any]], highs: Optional[Sequence[Any]]) -> list[int]:
-        """Returns the sums of many ranges, as a list of int, since a sum may need more than 64 bits."""
-        return self._sum_many(*self._keys.ends_many(lows, highs))
+    def sum_many(
+        self, lows: Optional[Sequence[Any]], highs: Optional[Sequence[Any]], *, raw: bool = False
+    ) -> list[OnePayload]:
+        """Returns the sums of many ranges, as a list of what `sum` returns, since a sum may need more than 64 bits."""
+        found = self._sum_many(*self._keys.ends_many(lows, highs))
+        return found if raw or not self._payloads.decimals else self._then(found, self._payloads.back_each)
 
-    def select(self, low: Any = None, high: Any = None) -> Rows:
+    def select(self, low: Any = None, high: Any = None, *, raw: bool = False) -> Rows:
         """Returns the rows with keys in the range.
+
+        Parameters
+        ----------
+        low, high : optional
+        raw : bool, optional
+            Whether to return keys and payloads as the table stores them: integers in place of decimals, which are
+            otherwise the nearest floats.
 
         Returns
         -------
         Rows
             Arrays of row numbers, keys and payloads: `rows, keys, payloads = table.select(..)`.
         """
-        return self._drive(self._select_steps(low, high))
+        return self._drive(self._select_steps(low, high, raw))
 
-    def _select_steps(self, low: Any, high: Any) -> Steps[Rows]:
+    def _select_steps(self, low: Any, high: Any, raw: bool) -> Steps[Rows]:
         first, end = self._keys.ends(low, high)
         found = self._select(first, end - 1) if first < end else self._nothing(self._no_rows())
-        rows, keys, payloads = yield found
-        return Rows(rows, self._keys.back(keys), payloads)
+        return self._rows_of((yield found), raw)
 
     def settle(self) -> None:
         """Merges all pending rows, for example after a load, so that later queries needn't."""

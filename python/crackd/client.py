@@ -10,7 +10,8 @@ from . import wire
 from .base import POLICIES, POLICY
 from .channel import Channel, checked_timeout
 from .errors import Busy, Closed, Disconnected, TimedOut
-from .keys import Keys
+from .decimals import INTEGERS, PayloadType
+from .keys import Keys, keys_for
 from .remote import RemoteTable
 
 
@@ -26,8 +27,9 @@ class Client(RemoteTable):
     1 70
     """
 
-    def __init__(self, channel: Channel, keys: Keys, policy: str):
+    def __init__(self, channel: Channel, keys: Keys, policy: str, payloads: PayloadType = INTEGERS):
         self._channel: Optional[Channel] = channel
+        self._payloads = payloads
         self._keys, self._policy, self._timeout, self._peer = keys, policy, channel.timeout, channel.peer
         self._lock, self._is_asking = threading.RLock(), False
         self._begin()
@@ -149,6 +151,8 @@ def connect(
     port: int = 4000,
     *,
     key_type: Any = "uint64",
+    key_decimals: Optional[int] = None,
+    payload_decimals: Optional[int] = None,
     policy: str = POLICY,
     timeout: Optional[float] = None,
 ) -> Client:
@@ -161,6 +165,9 @@ def connect(
     key_type : str or type, optional
         The type of the keys: "uint64", which is the server's own, "int64", "float64", "datetime64[s]" .. All clients of
         a table must use the same type.
+    key_decimals, payload_decimals : int, optional
+        The numbers of decimal places of keys and payloads: see `Table`. The server has integers, so all clients must
+        use the same numbers. The default is 0.
     policy : str, optional
         How queries merge pending rows: "auto", "complete", "gradual" or "ripple".
     timeout : float, optional
@@ -178,10 +185,10 @@ def connect(
     """
     if policy not in POLICIES:
         raise ValueError(f"policy must be one of {', '.join(POLICIES)}, not {policy}")
-    kind = Keys.named(key_type)
+    kind, payloads = keys_for((), key_type, key_decimals)[0], PayloadType(payload_decimals)
     try:
         channel = Channel(host, port, timeout=checked_timeout(timeout))
     except OSError as error:
         fault = TimedOut if isinstance(error, TimeoutError) else Disconnected
         raise fault(f"no server at {host}, port {port}: {error.strerror or error}") from error
-    return Client(channel, kind, policy)
+    return Client(channel, kind, policy, payloads)

@@ -17,11 +17,12 @@ from typing import Any, Callable, Iterator, Optional, Sequence
 from .arrays import TOP, np, whole
 from .base import POLICIES, POLICY, parts_for
 from .errors import Closed, Error, ShardLost
-from .keys import Keys, kind_of, quantiles
+from .decimals import PayloadType
+from .keys import Keys, keys_for, quantiles
 from .layout import keys_text
 from .local import HISTORY, MOST_CELLS
 from .routing import MOST_SHARDS, Cut, Sharded, checked_splits
-from .saved import BadSave
+from .saved import BadSave, types_of_head
 from .shard import (
     SECONDS_OF_A_LOOK,
     TIMEOUTS,
@@ -74,6 +75,7 @@ class Table(Sharded):
         shards: Optional[int] = None,
         splits: Optional[Sequence[Any]] = None,
         key_type: Any = None,
+        key_decimals: Optional[int] = None,
         **options: Any,
     ):
         """Creates an empty table.
@@ -90,10 +92,10 @@ class Table(Sharded):
             The number of shards. The default is one per worker of `client`.
         splits : array_like, optional
             The keys at which new shards begin, in ascending order. Replaces the quantiles of `sample`.
-        key_type, **options
-            `key_type`, `policy`, `history` and `cells` of `crackd.Table`.
+        key_type, key_decimals, **options
+            These, and `payload_decimals`, `policy`, `history` and `cells` are those of `crackd.Table`.
         """
-        kind = kind_of(sample) if key_type is None else Keys.named(key_type)
+        kind, sample = keys_for(sample, key_type, key_decimals)
         numbers = np.sort(kind.many(sample)) if len(sample) else np.empty(0, np.uint64)
         cuts = None if splits is None else checked_splits(kind.many(splits))
         if cuts is None and not len(numbers) and shards not in (None, 1):
@@ -111,6 +113,7 @@ class Table(Sharded):
         shards: Optional[int],
         cuts: Any = None,
         *,
+        payload_decimals: Optional[int] = None,
         policy: str = POLICY,
         history: int = HISTORY,
         cells: int = MOST_CELLS,
@@ -119,6 +122,7 @@ class Table(Sharded):
         if policy not in POLICIES:
             raise ValueError(f"policy must be one of {', '.join(POLICIES)}, not {policy}")
         self._client, self._keys, self._lock, self._policy = client, kind, threading.Lock(), policy
+        self._payloads = PayloadType(payload_decimals)
         self._lost: dict[int, ShardLost] = {}
         workers = sorted(client.nthreads())
         if not workers:
@@ -273,7 +277,8 @@ class Table(Sharded):
             for name in files:
                 if not (folder / name).exists():
                     raise BadSave(f"{folder} isn't shared: a worker wrote {name}, and it isn't there")
-            manifest = {"form": FORM, "keys": self._keys.name, "splits": self._shard_cuts.tolist(), "files": files}
+            types = types_of_head(self._keys, self._payloads)
+            manifest = {"form": FORM, "keys": self._keys.name, **types, "splits": self._shard_cuts.tolist(), "files": files}
             manifest |= {"counts": [it[0] for it in saved.values()], "sums": [it[1] for it in saved.values()]}
             write_synced(part, json.dumps(manifest, indent=1) + "\n")
         except BaseException:
@@ -300,7 +305,8 @@ class Table(Sharded):
         """
         folder = pathlib.Path(folder).resolve()
         manifest = read_manifest(folder / MANIFEST)
-        kind, counts = Keys.named(manifest["keys"]), manifest["counts"]
+        kind, counts = kind_of_manifest(manifest), manifest["counts"]
+        options = {"payload_decimals": manifest.get("payload_decimals", 0), **options}
         paths = [str(folder / it) for it in manifest["files"]]
         samples = client.gather(client.map(sample_of_file, paths, counts, [kind] * len(paths), pure=False))
         table = cls._empty(client, kind, samples, shards, options)
@@ -376,16 +382,23 @@ class Table(Sharded):
         payload: Any = None,
         *,
         shards: Optional[int] = None,
+        key_decimals: Optional[int] = None,
+        payload_decimals: Optional[int] = None,
         **options: Any,
     ) -> "Table":
         """Creates a table of the rows of a Dask dataframe or array. Each block goes from its worker to the shards.
 
-        `key` and `payload` are columns, by name or number. Without `payload` the payloads are 0, 1, 2 ..
+        `key` and `payload` are columns, by name or number. Without `payload` the payloads are 0, 1, 2 .. Columns of
+        floats need `key_decimals` and `payload_decimals`; without `key_decimals` keys stay floats.
         """
         is_frame = hasattr(type(frame), "columns")
         if not (hasattr(type(frame), "to_delayed") and (is_frame or hasattr(type(frame), "dtype"))):
             raise TypeError(f"from_dask takes a Dask dataframe or array, not one of type {type(frame).__name__}")
         kind = Keys.of_dtype(frame[key].dtype if is_frame else frame.dtype)
+        if key_decimals is not None:
+            kind = (Keys("i") if kind.kind == "f" else kind).with_decimals(key_decimals)
+        types = kind, PayloadType(payload_decimals)
+        options["payload_decimals"] = types[1].decimals
         if is_frame:
             frame = frame[list(dict.fromkeys(it for it in (key, payload) if it is not None))]
         elif frame.ndim == 2:
@@ -398,7 +411,7 @@ class Table(Sharded):
         table = cls._empty(client, kind, samples, shards, options)
 
         def loads(places: list[Place]) -> list[Future]:
-            words = kind, places, table._shard_cuts
+            words = types, places, table._shard_cuts
             load = dask.delayed(load_block, pure=False)
             given = zip(blocks, begins, counts)
             tasks = [load(at, it, key, payload, *more, *words) for at, (it, *more) in enumerate(given)]
@@ -445,12 +458,17 @@ def sync_folder(folder: pathlib.Path) -> None:
         os.close(at)
 
 
+def kind_of_manifest(manifest: dict[str, Any]) -> Keys:
+    """The type of the keys of a save."""
+    return Keys.named(manifest["keys"]).with_decimals(manifest.get("key_decimals", 0))
+
+
 def read_manifest(path: pathlib.Path) -> dict[str, Any]:
     """Reads the manifest of a save. Raises `BadSave` if the file is anything else."""
     try:
         manifest: dict[str, Any] = json.loads(path.read_text(encoding="ascii"))
         lists = [manifest[it] for it in ("files", "counts", "sums")]
-        Keys.named(manifest["keys"])
+        kind_of_manifest(manifest), PayloadType(manifest.get("payload_decimals"))
         is_whole = manifest["form"] == FORM and {len(it) for it in lists} == {len(manifest["splits"]) + 1}
     except (ValueError, KeyError, TypeError) as error:
         raise BadSave(f"{path} is no manifest: {type(error).__name__}: {error}") from error

@@ -30,11 +30,20 @@ def facts_of(table: Any, is_asking: bool) -> Iterator[tuple[str, str]]:
     if not state and (is_asking or table._is_here):
         yield "rows", f"{table._rows():,}"
     yield "keys", table.key_type
+    yield from facts_of_types(table)
     yield from table._facts()
     if not state and table._is_here:
         yield "memory", size_text(table._memory())
     if state:
         yield "state", state
+
+
+def facts_of_types(table: Any) -> Iterator[tuple[str, str]]:
+    """What a table's keys and payloads are besides integers, as pairs of a name and a text."""
+    if table.key_decimals:
+        yield "key decimals", str(table.key_decimals)
+    if table.payload_decimals:
+        yield "payload decimals", str(table.payload_decimals)
 
 
 def name_of(table: Any) -> str:

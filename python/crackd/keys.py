@@ -24,6 +24,17 @@ from .arrays import (
     whole,
 )
 from .dates import Unit, array_of, is_date, moment_of, moment_of_text, of_numpy, rescaled, unit_of
+from .decimals import (
+    Scaled,
+    ceiling_of,
+    checked_decimals,
+    end_of,
+    is_unsigned,
+    scaled_many,
+    scaled_one,
+    unscaled_many,
+    unscaled_one,
+)
 
 NAMES = {"u": "unsigned integers", "i": "integers", "f": "floats", "M": "dates"}
 BY_NAME = {"uint64": "u", "int64": "i", "float64": "f"}
@@ -44,6 +55,8 @@ def _float_of(bits: int) -> float:
 
 def kind_of(keys: Any) -> "Keys":
     """The type of these keys: by the type of the array, or else by the types of the items."""
+    if isinstance(keys, Scaled):
+        return Keys("u" if is_unsigned(keys.numbers) else "i", decimals=keys.decimals)
     given = items_of(keys, "keys")
     if is_array(given):
         return Keys.of_dtype(given.dtype)
@@ -64,11 +77,13 @@ class Keys:
     """A type of keys.
 
     Its `kind` is 'u' for unsigned and 'i' for signed 64-bit integers, 'f' for floats, and 'M' for numpy's dates and
-    times in one unit, whose type is `dtype`.
+    times in one unit, whose type is `dtype`. Integers may stand for decimals with `decimals` places.
     """
 
-    def __init__(self, kind: str, dtype: Any = None):
-        self.kind, self.dtype = kind, dtype
+    def __init__(self, kind: str, dtype: Any = None, decimals: int = 0):
+        self.kind, self.dtype, self.decimals = kind, dtype, decimals
+        # whether keys are integers themselves
+        self._is_whole = kind in "ui" and not decimals
 
     @staticmethod
     def of_dtype(dtype: Any) -> "Keys":
@@ -99,13 +114,33 @@ class Keys:
         raise TypeError(f"keys of {name} are not supported{' without numpy' if 'datetime' in str(name) else ''}")
 
     def __eq__(self, other: Any) -> bool:
-        return isinstance(other, Keys) and (self.kind, self.dtype) == (other.kind, other.dtype)
+        return isinstance(other, Keys) and self._facts() == other._facts()
 
     def __hash__(self) -> int:
-        return hash((self.kind, str(self.dtype)))
+        return hash((self.kind, str(self.dtype), self.decimals))
+
+    def _facts(self) -> tuple[Any, ...]:
+        return self.kind, self.dtype, self.decimals
 
     def __repr__(self) -> str:
-        return f"Keys({self.name})"
+        return f"Keys({self.name}{f', {self.decimals} decimals' if self.decimals else ''})"
+
+    def with_decimals(self, decimals: Any) -> "Keys":
+        """These integers with decimal places. Raises ValueError for another type of keys."""
+        places = checked_decimals(decimals, "key_decimals")
+        if places and self.kind not in "ui":
+            raise ValueError(f"key_decimals are for integers, not for keys of {self.name}")
+        return Keys(self.kind, self.dtype, places if self.kind in "ui" else 0)
+
+    @property
+    def raw(self) -> "Keys":
+        """The keys as a table stores them and `raw=True` returns them: integers in place of decimals."""
+        return Keys(self.kind, self.dtype)
+
+    @property
+    def _code(self) -> str:
+        """The type code of the integers in the module `array`."""
+        return "Q" if self.kind == "u" else "q"
 
     @property
     def name(self) -> str:
@@ -122,11 +157,14 @@ class Keys:
     def one(self, key: Any) -> int:
         """The number of a key. Raises an error if the key doesn't fit or has another type."""
         number: int
-        if type(key) is not int or self.kind not in "ui":
+        if type(key) is not int or not self._is_whole:
             if self.kind == "f":
                 return self._of_float(exact_float(key))
             if self.kind == "M":
                 return self._of_date(key)
+            if self.decimals:
+                found = scaled_one(self._code, key, self.decimals, "the key")
+                return found if self.kind == "u" else found + SIGN
             key = whole(key, "a key")
         number = key if self.kind == "u" else key + SIGN
         if not 0 <= number < TOP:
@@ -138,10 +176,12 @@ class Keys:
 
     def many(self, keys: Any) -> Any:
         """The numbers of these keys, as a new array."""
-        if self.kind == "u":
-            return ints("Q", keys, "keys")
-        if self.kind == "i":
-            return self._of_signed(ints("q", keys, "keys"))
+        if self.kind in "ui":
+            is_plain = self._is_whole and not isinstance(keys, Scaled)
+            found = ints(self._code, keys, "keys") if is_plain else scaled_many(self._code, keys, self.decimals, "keys")
+            return found if self.kind == "u" else self._of_signed(found)
+        if isinstance(keys, Scaled):
+            keys = keys.floats()
         given = items_of(keys, "keys")
         return self._of_floats(given) if self.kind == "f" else self._of_dates(given)
 
@@ -191,7 +231,18 @@ class Keys:
         return number + SIGN
 
     def back(self, found: Any) -> Any:
-        """The keys that have these numbers."""
+        """The keys that have these numbers, as an array. For decimals these are the nearest floats."""
+        return unscaled_many(self._back(found), self.decimals)
+
+    def exact(self, found: Any) -> Any:
+        """The keys that have these numbers, in a form from which `many` gets the same numbers."""
+        return self.of_raw(self._back(found))
+
+    def of_raw(self, keys: Any) -> Any:
+        """Keys as `raw` returns them in a form that `many` takes for what they stand for."""
+        return Scaled(keys, self.decimals) if self.decimals else keys
+
+    def _back(self, found: Any) -> Any:
         if self.kind == "u":
             return found
         if np is None:
@@ -206,20 +257,22 @@ class Keys:
 
     def back_one(self, number: int) -> Any:
         """The key that has this number."""
-        if self.kind == "u":
-            return number
         if self.kind == "f":
             return _float_of(number - SIGN if number >= SIGN else TOP - 1 - number)
-        return number - SIGN if self.kind == "i" else np.int64(number - SIGN).view(self.dtype)
+        if self.kind == "M":
+            return np.int64(number - SIGN).view(self.dtype)
+        return unscaled_one(number if self.kind == "u" else number - SIGN, self.decimals)
 
     def bound(self, end: Any) -> int:
         """The number of the least key that is at or above this end of a range, or 2**64 if there is none."""
-        if type(end) is not int or self.kind not in "ui":
+        if type(end) is not int or not self._is_whole:
             end = self._exact(end)
             if self.kind == "f":
                 return self._float_bound(end)
             if self.kind == "M":
                 end = self.unit.least_from(end)
+            elif self.decimals:
+                end = ceiling_of(end, self.decimals)
             elif end in (math.inf, -math.inf):
                 return TOP if end > 0 else 0
             else:
@@ -231,6 +284,8 @@ class Keys:
         """An end as a Python number that compares exactly with others. For a date this is its moment."""
         if self.kind == "M":
             return moment_of_text(end) if isinstance(end, str) else moment_of(end, "the end of a range")
+        if self.decimals:
+            return end_of(end, self.decimals)
         # numpy would convert its integers to floats when it compares or rounds them
         found = _item(end)
         if isinstance(found, NO_NUMBERS) or not isinstance(found, numbers.Real):
@@ -293,6 +348,16 @@ class Keys:
         # an empty range is stored as the keys from 1 to 0
         pairs = [(first, end - 1) if first < end else (1, 0) for first, end in ends]
         return from_ints("Q", [it[0] for it in pairs], "keys"), from_ints("Q", [it[1] for it in pairs], "keys")
+
+
+def keys_for(sample: Any, key_type: Any, key_decimals: Optional[int]) -> tuple[Keys, Any]:
+    """The type of a table's keys by the options of an opening, and the sample in a form that has this type."""
+    if key_decimals is not None:
+        sample = decimals_of(sample, checked_decimals(key_decimals, "key_decimals"), "keys")
+    elif isinstance(sample, Scaled) and not isinstance(key_type, Keys):
+        key_decimals = sample.decimals
+    kind = kind_of(sample) if key_type is None else Keys.named(key_type)
+    return kind if key_decimals is None else kind.with_decimals(key_decimals), sample
 
 
 def listed(ends: Any) -> Any:

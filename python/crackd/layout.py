@@ -6,7 +6,7 @@ import html
 from dataclasses import dataclass
 from typing import Iterator, Sequence
 
-from .arrays import SIGN, TOP
+from .arrays import TOP
 from .drawing import styles
 from .keys import Keys
 
@@ -32,8 +32,7 @@ def rows_text(count: int) -> str:
 def keys_text(keys: Keys, low: int, high: int) -> str:
     """The keys from the number `low` up to but not including `high`, in words."""
     if keys.kind in "ui":
-        offset = SIGN if keys.kind == "i" else 0
-        return f"{low - offset} to {high - 1 - offset}"
+        return f"{keys.back_one(low)} to {keys.back_one(high - 1)}"
     if low == 0 or high == TOP:
         ends = (
             [f"from {keys.back_one(low)}"] if low else [f"below {keys.back_one(high)}"] if high < TOP else ["all keys"]

@@ -3,9 +3,10 @@
 from __future__ import annotations
 
 import abc
-from typing import Any, Iterator, TypeVar, overload
+from typing import Any, Iterator, Optional, TypeVar, overload
 
 from .base import AnyTable
+from .decimals import keys_with_decimals, payloads_with_decimals
 from .frames import columns_of_arrow, columns_of_pandas
 from .saved import read_rows
 from .typed import Progress, Self
@@ -26,7 +27,16 @@ class TableHere(AnyTable):
         """Creates a table of these rows."""
 
     @classmethod
-    def from_pandas(cls, frame: Any, key: Any = None, payload: Any = None, **options: Any) -> Self:
+    def from_pandas(
+        cls,
+        frame: Any,
+        key: Any = None,
+        payload: Any = None,
+        *,
+        key_decimals: Optional[int] = None,
+        payload_decimals: Optional[int] = None,
+        **options: Any,
+    ) -> Self:
         """Creates a table of the rows of a DataFrame or Series and merges them all.
 
         Parameters
@@ -35,6 +45,9 @@ class TableHere(AnyTable):
         key, payload : label, optional
             The columns. Without `key` the keys are the index. Without `payload` the payloads are the values of a
             Series, or else 0, 1, 2 .., the positions that `frame.iloc` takes.
+        key_decimals, payload_decimals : int, optional
+            The numbers of decimal places: see `Table`. By default these are the most that occur in a column of floats
+            or decimals, if that are at most 9. Keys without such places stay floats, and payloads are refused.
         **options
             Parameters of `Table`, and `progress` of `from_arrays`.
 
@@ -46,16 +59,39 @@ class TableHere(AnyTable):
         Raises
         ------
         ValueError
-            If a value is missing. The message names the first one.
+            If a value is missing, or isn't a decimal with these places. The message names the first one.
 
         Notes
         -----
         Nullable integer columns are accepted if no value is missing. Dates with a time zone become UTC.
         """
-        return cls.from_arrays(*columns_of_pandas(frame, key, payload), **options)
+        found = columns_of_pandas(frame, key, payload)
+        return cls._from_columns(found, key_decimals, payload_decimals, options)
 
     @classmethod
-    def from_arrow(cls, data: Any, key: Any = 0, payload: Any = None, **options: Any) -> Self:
+    def _from_columns(
+        cls, found: tuple[Any, Any], key_decimals: Optional[int], payload_decimals: Optional[int], options: Any
+    ) -> Self:
+        """Creates a table of columns, and finds the decimal places that aren't given."""
+        keys, payloads = found
+        if key_decimals is None and options.get("key_type") is None:
+            keys = keys_with_decimals(keys)
+        if payload_decimals is None:
+            payloads = payloads_with_decimals(payloads)
+        options |= {"key_decimals": key_decimals, "payload_decimals": payload_decimals}
+        return cls.from_arrays(keys, payloads, **options)
+
+    @classmethod
+    def from_arrow(
+        cls,
+        data: Any,
+        key: Any = 0,
+        payload: Any = None,
+        *,
+        key_decimals: Optional[int] = None,
+        payload_decimals: Optional[int] = None,
+        **options: Any,
+    ) -> Self:
         """Creates a table of the rows of Arrow data and merges them all.
 
         Parameters
@@ -64,6 +100,8 @@ class TableHere(AnyTable):
             An object with the method `__arrow_c_stream__`, such as a pyarrow Table or a polars DataFrame.
         key, payload : str or int, optional
             The columns, by name or number. Without `payload` the payloads are 0, 1, 2 ..
+        key_decimals, payload_decimals : int, optional
+            Those of `from_pandas`.
         **options
             Parameters of `Table`, and `progress` of `from_arrays`.
 
@@ -72,7 +110,8 @@ class TableHere(AnyTable):
         Table
             Its `row_numbers` are the numbers of the rows, in the order of the data.
         """
-        return cls.from_arrays(*columns_of_arrow(data, key, payload), **options)
+        found = columns_of_arrow(data, key, payload)
+        return cls._from_columns(found, key_decimals, payload_decimals, options)
 
     @overload
     @classmethod
@@ -89,12 +128,13 @@ class TableHere(AnyTable):
         Rows get new numbers. Raises `BadSave` if the file isn't one that `save` writes. Options are those of `Table`,
         and only for a new table.
         """
-        kind, rows = read_rows(path)
+        kind, payload_type, rows = read_rows(path)
+        keys, payloads = kind.of_raw(rows["key"]), payload_type.exact(rows["payload"])
         if into is None:
-            return cls.from_arrays(rows["key"], rows["payload"], **{"key_type": kind, **options}, progress=progress)
+            return cls.from_arrays(keys, payloads, **{"key_type": kind, **options}, progress=progress)
         if options:
             raise TypeError(f"options are for a new table: {', '.join(options)}")
-        into.insert_rows(rows["key"], rows["payload"], progress=progress)
+        into.insert_rows(keys, payloads, progress=progress)
         into.settle()
         return into
 

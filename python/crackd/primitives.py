@@ -3,13 +3,14 @@
 from __future__ import annotations
 
 import abc
-from typing import Any, Generator, Iterable, Optional, TypeVar
+from typing import Any, Callable, Generator, Iterable, Optional, TypeVar
 
 from .arrays import ints
+from .decimals import INTEGERS, PayloadType
 from .forks import NoLock, leave_in_children
 from .keys import Keys
 from .layout import PartLayout
-from .rows import Rows
+from .rows import Row, Rows
 from .typed import Counts, RowNumbers
 
 Answer = TypeVar("Answer")
@@ -22,6 +23,7 @@ class Primitives(abc.ABC):
     """The operations of a table. Their ranges are closed: from a first to a last key."""
 
     _keys: Keys
+    _payloads: PayloadType = INTEGERS
     _lock: Any
     # whether the rows are in this process, so that counting them asks no other process
     _is_here = False
@@ -37,6 +39,16 @@ class Primitives(abc.ABC):
     def key_type(self) -> str:
         """The type of the keys, such as "int64" or "datetime64[us]"."""
         return self._keys.name
+
+    @property
+    def key_decimals(self) -> int:
+        """The number of decimal places of the keys. Without any the keys are of `key_type` itself."""
+        return self._keys.decimals
+
+    @property
+    def payload_decimals(self) -> int:
+        """The number of decimal places of the payloads. Without any the payloads are integers."""
+        return self._payloads.decimals
 
     @property
     @abc.abstractmethod
@@ -65,6 +77,23 @@ class Primitives(abc.ABC):
     def _leave(self) -> None:
         """Gives up the table in a forked child: each call that takes its lock raises `Forked`."""
         self._lock = NoLock()
+
+    def _then(self, answer: Any, call: Callable[[Any], Answer]) -> Answer:
+        """Calls a function with what a primitive returned."""
+        return call(answer)
+
+    def _row_of(self, key: int, payload: int, raw: bool = False) -> Row:
+        """A single row as callers get it. `raw` leaves out what integers stand for."""
+        if raw:
+            return Row(self._keys.raw.back_one(key), payload)
+        return Row(self._keys.back_one(key), self._payloads.back_one(payload))
+
+    def _rows_of(self, found: tuple[Any, Any, Any], raw: bool = False) -> Rows:
+        """Rows as callers get them, as `_select` returned them."""
+        rows, keys, payloads = found
+        if raw:
+            return Rows(rows, self._keys.raw.back(keys), payloads)
+        return Rows(rows, self._keys.back(keys), self._payloads.back(payloads))
 
     def _nothing(self, answer: Answer) -> Answer:
         """Returns the answer for an empty range. Raises an error if the table is closed."""

@@ -4,44 +4,46 @@ from __future__ import annotations
 
 import bisect
 import contextlib
-import fractions
 from typing import Any, Iterator, Optional, Sequence
 
 from .arrays import SIGN, TOP, from_ints, items_of, np
+from .decimals import INTEGERS, PayloadType
 from .errors import Error, Refused, refused
 from .frames import columns_of
 from .primitives import Primitives, Steps
 from .progress import insert_steps
 from .rows import CHUNK, SHIFT, Rebalanced, Row, Rows, checked_size, row_of
 from .saved import Writing, writing
-from .typed import Counts, Progress, RowNumbers, Sums
+from .typed import Counts, Mean, Progress, RowNumbers, Sums
 
 
 class Questions(Primitives):
     """Methods of all tables that are made of counts, sums, selects, inserts and deletes."""
 
-    def mean(self, low: Any = None, high: Any = None) -> Optional[fractions.Fraction]:
+    def mean(self, low: Any = None, high: Any = None, *, raw: bool = False) -> Optional[Mean]:
         """Returns the exact mean of the payloads of the rows with keys in the range.
 
         Returns
         -------
-        fractions.Fraction or None
-            The sum divided by the count; `float` rounds it. None if there is no row, as in SQL.
+        fractions.Fraction, decimal.Decimal or None
+            The sum divided by the count; `float` rounds it. None if there is no row, as in SQL. If payloads have
+            decimal places it is a decimal, exactly, or rounded to 40 digits if no decimal is exact; with `raw` it is
+            the exact mean of the integers that stand for them.
 
         Notes
         -----
         On a server or a cluster the sum and the count are two calls. Changes by other clients between them may be in
         only one of the two.
         """
-        return self._drive(self._mean_steps(low, high))
+        return self._drive(self._mean_steps(low, high, INTEGERS if raw else self._payloads))
 
-    def _mean_steps(self, low: Any, high: Any) -> Steps[Optional[fractions.Fraction]]:
+    def _mean_steps(self, low: Any, high: Any, payloads: PayloadType) -> Steps[Optional[Mean]]:
         first, end = self._keys.ends(low, high)
         if first >= end:
             yield self._nothing(None)
             return None
         total, count = yield from self._alone_steps(self._sum_and_count_steps(first, end - 1))
-        return fractions.Fraction(total, count) if count else None
+        return payloads.mean(total, count) if count else None
 
     def _sum_and_count_steps(self, first: int, last: int) -> Steps[tuple[int, int]]:
         total = yield self._sum(first, last)
@@ -62,18 +64,20 @@ class Questions(Primitives):
         """
         return self._count_many(*self._keys.ends_many(*neighbours(edges)))
 
-    def sum_by(self, edges: Sequence[Any]) -> Sums:
+    def sum_by(self, edges: Sequence[Any], *, raw: bool = False) -> Sums:
         """Returns the exact sums of the payloads in the ranges of `count_by`.
 
         Returns
         -------
-        array of int64, or of objects
-            If a sum needs more than 64 bits, the items are Python ints.
+        array of int64, of float64, or of objects
+            If payloads have decimal places these are the floats nearest to the sums, or with `raw` the integers that
+            stand for them. If an integer needs more than 64 bits, the items are Python ints.
         """
-        return self._drive(self._sum_by_steps(edges))
+        return self._drive(self._sum_by_steps(edges, INTEGERS if raw else self._payloads))
 
-    def _sum_by_steps(self, edges: Sequence[Any]) -> Steps[Sums]:
-        sums: Sums = sums_array((yield self._sum_many(*self._keys.ends_many(*neighbours(edges)))))
+    def _sum_by_steps(self, edges: Sequence[Any], payloads: PayloadType) -> Steps[Sums]:
+        found = yield self._sum_many(*self._keys.ends_many(*neighbours(edges)))
+        sums: Sums = sums_array(found, payloads)
         return sums
 
     def delete_range(self, low: Any = None, high: Any = None) -> int:
@@ -96,7 +100,7 @@ class Questions(Primitives):
         rows = (yield self._select(first, last))[0]
         return (yield self._delete_many(rows))
 
-    def get(self, row: int) -> Optional[Row]:
+    def get(self, row: int, *, raw: bool = False) -> Optional[Row]:
         """Returns the key and payload of a row, or None if it doesn't exist. Reads all rows of its partition.
 
         Raises
@@ -104,9 +108,9 @@ class Questions(Primitives):
         NoSuchPartition
             If the table has no such partition, so that no row can have this number.
         """
-        return self._drive(self._get_steps(row))
+        return self._drive(self._get_steps(row, raw))
 
-    def _get_steps(self, row: int) -> Steps[Optional[Row]]:
+    def _get_steps(self, row: int, raw: bool) -> Steps[Optional[Row]]:
         number = row_of(row)
         ends = yield from self._ends_steps()
         if number >> SHIFT not in ends:
@@ -117,7 +121,7 @@ class Questions(Primitives):
         at = place_of(number, rows)
         if at == len(rows) or int(rows[at]) != number:
             return None
-        return Row(self._keys.back_one(int(keys[at])), int(payloads[at]))
+        return self._row_of(int(keys[at]), int(payloads[at]), raw)
 
     def _ends_steps(self) -> Steps[dict[int, tuple[int, int]]]:
         """The ends of each partition's keys, by its number."""
@@ -162,7 +166,7 @@ class Questions(Primitives):
 
     def _put_back_steps(self, error: Any, taken: tuple[int, int]) -> Steps[None]:
         """Inserts a deleted row again with its old key, if `error` shows that it wasn't inserted with its new one."""
-        error.row = Row(self._keys.back_one(taken[0]), taken[1])
+        error.row = self._row_of(*taken)
         placed = getattr(error, "answers", None)
         # after a lost connection or a cancelled task it isn't known whether the row was inserted
         if placed is None or len(placed) or not isinstance(error, Refused):
@@ -170,7 +174,9 @@ class Questions(Primitives):
         with contextlib.suppress(Error):
             error.answers = yield self._insert_one(*taken)
 
-    def select_chunks(self, low: Any = None, high: Any = None, size: int = CHUNK) -> Iterator[Rows]:
+    def select_chunks(
+        self, low: Any = None, high: Any = None, size: int = CHUNK, *, raw: bool = False
+    ) -> Iterator[Rows]:
         """Yields the rows of `select` in the same order, at most `size` at a time.
 
         A partition is read only when its first chunk is needed. So only one partition's rows are in memory at a time,
@@ -180,7 +186,7 @@ class Questions(Primitives):
         checked_size(size)
         if first >= end:
             return iter(self._nothing(()))
-        return self._chunks(self._drive(self._parts_steps(first, end)), size)
+        return self._chunks(self._drive(self._parts_steps(first, end)), size, raw)
 
     def _parts_steps(self, first: int, end: int) -> Steps[list[tuple[int, int]]]:
         """For each partition that meets a range, its first and last key in the range."""
@@ -188,10 +194,9 @@ class Questions(Primitives):
         meets = [(max(low, first), min(high, end) - 1) for _, (low, high) in sorted(ends.items())]
         return [it for it in meets if it[0] <= it[1]]
 
-    def _chunks(self, parts: list[tuple[int, int]], size: int) -> Iterator[Rows]:
+    def _chunks(self, parts: list[tuple[int, int]], size: int, raw: bool) -> Iterator[Rows]:
         for first, last in parts:
-            rows, keys, payloads = self._select(first, last)
-            yield from Rows(rows, self._keys.back(keys), payloads).chunks(size)
+            yield from self._rows_of(self._select(first, last), raw).chunks(size)
 
     def insert_frame(
         self, frame: Any, key: Any = None, payload: Any = None, *, progress: Progress = None
@@ -243,10 +248,12 @@ class Questions(Primitives):
         """
         if into is not None and options:
             raise TypeError(f"options are for a new table: {', '.join(options)}")
-        return self._drive(self._rebalanced_steps(into, {"key_type": self._keys, "policy": self.policy, **options}))
+        types = {"key_type": self._keys, "payload_decimals": self._payloads.decimals}
+        return self._drive(self._rebalanced_steps(into, {**types, "policy": self.policy, **options}))
 
     def _rebalanced_steps(self, into: Any, options: dict[str, Any]) -> Steps[Rebalanced]:
         old, keys, payloads = yield from self._alone_steps(self._all_steps())
+        keys, payloads = self._keys.exact(keys), self._payloads.exact(payloads)
         found = self._anew(keys, len(keys), options) if into is None else into
         try:
             new = yield found.insert_many(keys, payloads)
@@ -257,8 +264,8 @@ class Questions(Primitives):
             raise
         return Rebalanced(found, old, new)
 
-    def _all_steps(self) -> Steps[Rows]:
-        rows: Rows = yield self.select()
+    def _all_steps(self) -> Steps[tuple[Any, Any, Any]]:
+        rows: tuple[Any, Any, Any] = yield self._select(0, TOP - 1)
         return rows
 
     def _anew(self, keys: Any, rows: int, options: dict[str, Any]) -> Any:
@@ -281,7 +288,7 @@ class Questions(Primitives):
         return self._drive(self._save_steps(path))
 
     def _save_steps(self, path: Any) -> Steps[int]:
-        with writing(path, self._keys) as file:
+        with writing(path, self._keys, self._payloads) as file:
             yield from self._alone_steps(self._written_steps(file))
         return file.rows
 
@@ -300,10 +307,13 @@ def neighbours(edges: Any) -> tuple[Any, Any]:
     return given[:-1], given[1:]
 
 
-def sums_array(sums: list[int]) -> Any:
-    """Sums as an array of int64 if they fit, else of objects. Without numpy returns the list itself."""
+def sums_array(sums: list[int], payloads: PayloadType) -> Any:
+    """Sums as an array of int64 if they fit, else of objects. Decimals become floats. Without numpy it is a list."""
     if np is None:
-        return sums
+        return payloads.back_each(sums)
+    if payloads.decimals:
+        # Python divides integers exactly and rounds once
+        return np.array([it / 10**payloads.decimals for it in sums], np.float64)
     fits = all(-SIGN <= it < SIGN for it in sums)
     return np.array(sums, dtype=np.int64 if fits else object)
 

@@ -4,8 +4,8 @@ from __future__ import annotations
 
 from typing import TYPE_CHECKING, Any, Iterator, NamedTuple
 
-from .arrays import SIGN, TOP, from_ints, ints, np, shown, whole
-from .typed import KeyArray, OneKey, Payloads, RowNumbers
+from .arrays import TOP, from_ints, ints, np, shown, whole
+from .typed import KeyArray, OneKey, OnePayload, Payloads, RowNumbers
 
 if TYPE_CHECKING:
     import pandas
@@ -31,7 +31,7 @@ class Row(NamedTuple):
     """
 
     key: OneKey
-    payload: int
+    payload: OnePayload
 
 
 class Rows(NamedTuple):
@@ -106,14 +106,6 @@ class Rebalanced(NamedTuple):
 def row_text(row: int) -> str:
     """A row number as a server writes it: the partition, a dot, and the serial in that partition."""
     return f"{int(row) >> SHIFT}.{int(row) & SERIAL}"
-
-
-def payload_of(payload: Any) -> int:
-    """A single payload as an int."""
-    number = payload if type(payload) is int else whole(payload, "a payload")
-    if not -SIGN <= number < SIGN:
-        raise OverflowError(f"the payload {shown(payload)} doesn't fit into a signed integer of 64 bits")
-    return number
 
 
 def row_of(row: Any) -> int:

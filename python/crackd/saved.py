@@ -3,12 +3,14 @@
 from __future__ import annotations
 
 import contextlib
+import json
 import os
 import pathlib
 import struct
 from typing import Any, Iterator
 
 from .arrays import np
+from .decimals import PayloadType
 from .errors import Error
 from .keys import Keys
 
@@ -25,9 +27,19 @@ def row_dtype(kind: Keys) -> Any:
     return np.dtype([("key", kind.name), ("payload", "int64")])
 
 
-def head_of(dtype: Any, rows: int) -> bytes:
-    """The first bytes of a file with this many rows, in version 1.0 of numpy's file format."""
-    said = repr({"descr": dtype.descr, "fortran_order": False, "shape": (rows,)}).encode("ascii")
+def types_of_head(kind: Keys, payloads: PayloadType) -> dict[str, Any]:
+    """What a file says of its types besides the types of its numbers, without defaults."""
+    said = {"key_decimals": kind.decimals, "payload_decimals": payloads.decimals}
+    return {name: it for name, it in said.items() if it}
+
+
+def head_of(dtype: Any, rows: int, types: dict[str, Any]) -> bytes:
+    """The first bytes of a file with this many rows, in version 1.0 of numpy's file format.
+
+    The head is a text of Python, so a comment says what numpy has no words for.
+    """
+    text = repr({"descr": dtype.descr, "fortran_order": False, "shape": (rows,)})
+    said = (text + (f"  # {json.dumps(types)}" if types else "")).encode("ascii")
     magic = b"\x93NUMPY\x01\x00" + struct.pack("<H", HEAD - 10)
     return magic + said.ljust(HEAD - len(magic) - 1) + b"\n"
 
@@ -35,9 +47,9 @@ def head_of(dtype: Any, rows: int) -> bytes:
 class Writing:
     """A file of rows that is being written. `rows` is the number of rows so far."""
 
-    def __init__(self, file: Any, kind: Keys):
-        self._file, self._kind, self.rows = file, kind, 0
-        file.write(head_of(row_dtype(kind), 0))
+    def __init__(self, file: Any, kind: Keys, payloads: PayloadType):
+        self._file, self._kind, self._types, self.rows = file, kind.raw, types_of_head(kind, payloads), 0
+        file.write(head_of(row_dtype(kind), 0, self._types))
 
     def add(self, keys: Any, payloads: Any) -> None:
         """Writes some rows. `keys` are the numbers of the keys."""
@@ -49,13 +61,13 @@ class Writing:
     def end(self) -> None:
         """Writes the number of rows, which is known only now, into the head, and flushes the file to disk."""
         self._file.seek(0)
-        self._file.write(head_of(row_dtype(self._kind), self.rows))
+        self._file.write(head_of(row_dtype(self._kind), self.rows, self._types))
         self._file.flush()
         os.fsync(self._file.fileno())
 
 
 @contextlib.contextmanager
-def writing(path: Any, kind: Keys) -> Iterator[Writing]:
+def writing(path: Any, kind: Keys, payloads: PayloadType) -> Iterator[Writing]:
     """A context that writes a file of rows. An existing file is replaced only at the end of the block."""
     if np is None:
         raise ImportError("files of rows need numpy: pip install numpy")
@@ -63,7 +75,7 @@ def writing(path: Any, kind: Keys) -> Iterator[Writing]:
     part = path.with_name(path.name + ".part")
     try:
         with open(part, "wb") as file:
-            written = Writing(file, kind)
+            written = Writing(file, kind, payloads)
             yield written
             written.end()
         os.replace(part, path)
@@ -72,8 +84,8 @@ def writing(path: Any, kind: Keys) -> Iterator[Writing]:
         raise
 
 
-def read_rows(path: Any) -> tuple[Keys, Any]:
-    """The type of the keys in a file, and its rows, which are mapped into memory and read as they are used."""
+def read_rows(path: Any) -> tuple[Keys, PayloadType, Any]:
+    """The types in a file, and its rows, which are mapped into memory and read as they are used."""
     if np is None:
         raise ImportError("files of rows need numpy: pip install numpy")
     try:
@@ -88,4 +100,21 @@ def read_rows(path: Any) -> tuple[Keys, Any]:
         raise BadSave(f"{path} has no rows of a table: {error}") from error
     if not is_whole:
         raise BadSave(f"{path} has no rows of a table, but {rows.dtype}")
-    return kind, rows
+    types = read_types(path)
+    try:
+        return kind.with_decimals(types.get("key_decimals", 0)), PayloadType(types.get("payload_decimals")), rows
+    except (ValueError, TypeError) as error:
+        raise BadSave(f"{path} has rows of a type that no table has: {error}") from error
+
+
+def read_types(path: Any) -> dict[str, Any]:
+    """What the comment in the head of a file of rows says of its types."""
+    with open(path, "rb") as file:
+        head = file.read(HEAD)
+    _, mark, said = head.partition(b"  # ")
+    try:
+        types: dict[str, Any] = json.loads(said.split(b"\n")[0]) if mark else {}
+    except ValueError:
+        # a comment of another program
+        return {}
+    return types if isinstance(types, dict) else {}

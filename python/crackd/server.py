@@ -15,8 +15,9 @@ from typing import IO, Any, AnyStr, Optional, Sequence
 from .arrays import whole
 from .base import MOST_PARTS, POLICIES, POLICY, parts_for
 from .client import Client, connect
+from .decimals import INTEGERS, PayloadType
 from .errors import Error, Forked, refused
-from .keys import Keys, kind_of, quantiles
+from .keys import Keys, keys_for, quantiles
 
 TRIES = 5
 SECONDS_OF_AN_END = 10
@@ -102,8 +103,8 @@ class Server:
     1 70
     """
 
-    def __init__(self, command: Sequence[str], keys: Keys, policy: str):
-        self._keys, self._policy, self._parent = keys, policy, os.getpid()
+    def __init__(self, command: Sequence[str], keys: Keys, policy: str, payloads: PayloadType = INTEGERS):
+        self._keys, self._payloads, self._policy, self._parent = keys, payloads, policy, os.getpid()
         for _ in range(TRIES):
             self.port = free_port()
             self._start(command)
@@ -147,7 +148,8 @@ class Server:
 
         A server serves up to 10,000 connections at a time.
         """
-        given: dict[str, Any] = {"key_type": self._keys, "policy": self._policy, **options}
+        types: dict[str, Any] = {"key_type": self._keys, "payload_decimals": self._payloads.decimals}
+        given = {**types, "policy": self._policy, **options}
         return connect("127.0.0.1", self.port, **given)
 
     def close(self) -> None:
@@ -212,6 +214,8 @@ def serve(
     rows: Optional[int] = None,
     *,
     key_type: Any = None,
+    key_decimals: Optional[int] = None,
+    payload_decimals: Optional[int] = None,
     partitions: Optional[int] = None,
     splits: Optional[Sequence[Any]] = None,
     workers: int = 8,
@@ -230,8 +234,8 @@ def serve(
         Keys distributed like those that the table will hold. Its quantiles divide the keys into partitions.
     rows : int, optional
         About how many rows the table will hold. The default is the length of `sample`.
-    key_type, partitions, splits, policy
-        Those of `Table`.
+    key_type, key_decimals, payload_decimals, partitions, splits, policy
+        Those of `Table`. The server itself has integers: `connect` of the returned object knows what they stand for.
     workers : int, optional
         The number of threads that serve connections, 1 to 64.
     history, cells : int, optional
@@ -250,9 +254,10 @@ def serve(
     """
     if policy not in POLICIES:
         raise ValueError(f"policy must be one of {', '.join(POLICIES)}, not {policy}")
-    kind = kind_of(sample) if key_type is None else Keys.named(key_type)
+    kind, sample = keys_for(sample, key_type, key_decimals)
+    payloads = PayloadType(payload_decimals)
     cuts = splits_of(kind, sample, rows, partitions, splits)
     limits = (("--workers", "workers", workers), ("--limit", "history", history), ("--cells", "cells", cells))
     words = [word for option, name, it in limits if it is not None for word in (option, str(whole(it, name)))]
     command = [find_program(program), "--until-eof", "--auto-checkpoint", "--quiet", *words, *map(str, cuts)]
-    return Server(command, kind, policy)
+    return Server(command, kind, policy, payloads)

@@ -12,7 +12,8 @@ import pathlib
 import uuid
 from typing import Any, Callable, NamedTuple, Sequence
 
-from .arrays import TOP, ints, np
+from .arrays import TOP, np
+from .decimals import PayloadType
 from .errors import Error
 from .keys import Keys
 from .local import LocalShard
@@ -62,7 +63,7 @@ class Shard:
 
     def __init__(self, kind: Keys, cuts: Sequence[int], options: dict[str, Any]):
         self.token = uuid.uuid4().hex
-        self.kind = kind
+        self.kind = kind.raw
         self.rows = LocalShard(cuts, **options)
         self.loaded: set[int] = set()
 
@@ -193,7 +194,7 @@ def rows_of_file(path: str, count: int, kind: Keys) -> Any:
 def sample_of_file(path: str, count: int, kind: Keys) -> tuple[int, Any]:
     """The number of rows of a file, and a sample of the numbers of its keys."""
     keys = rows_of_file(path, count, kind)["key"]
-    return count, kind.many(sample_of(keys)[1])
+    return count, kind.raw.many(sample_of(keys)[1])
 
 
 def load_file(
@@ -207,7 +208,7 @@ def load_file(
     cuts: Any,
 ) -> int:
     """Loads the rows from `begin` to `end` of a file, as block `number`."""
-    rows = rows_of_file(path, count, kind)[begin:end]
+    rows, kind = rows_of_file(path, count, kind)[begin:end], kind.raw
     return load_rows(number, kind.many(rows["key"]), np.array(rows["payload"]), places, cuts)
 
 
@@ -230,13 +231,13 @@ def load_block(
     payload: Any,
     begin: int,
     count: int,
-    kind: Keys,
+    types: tuple[Keys, PayloadType],
     places: Sequence[Place],
     cuts: Any,
 ) -> int:
     """Loads block `number` of a Dask collection. Without a payload column the payloads count up from `begin`."""
-    keys = kind.many(column_of(block, key))
+    keys = types[0].many(column_of(block, key))
     if len(keys) != count:
         raise ShardFailed(f"block {number} had {count} rows when its keys were sampled, and has {len(keys)} now")
     payloads = np.arange(begin, begin + count) if payload is None else column_of(block, payload)
-    return load_rows(number, keys, ints("q", payloads, "payloads"), places, cuts)
+    return load_rows(number, keys, types[1].many(payloads), places, cuts)

@@ -8,8 +8,9 @@ from typing import Any, Callable, Optional, Sequence
 
 from .arrays import items_of, np, whole
 from .base import MOST_PARTS, POLICIES, POLICY, SHIFT
+from .decimals import PayloadType, Scaled, decimals_of
 from .errors import Error, Refused, refused
-from .keys import Keys, kind_of
+from .keys import keys_for
 from .library import library
 from .local import HISTORY, MOST_CELLS, LocalShard
 from .makers import TableHere
@@ -18,7 +19,7 @@ from .pool import processors, run_in_turn, run_side_by_side
 from .primitives import Answer, Steps
 from .progress import pieces_of, reporter
 from .routing import IN_SHARD, MOST_SHARDS, SHARD_SHIFT, Cut, Sharded, checked_splits, put_rows, shard_of
-from .rows import Row, row_of
+from .rows import row_of
 from .server import splits_of
 from .typed import Progress, RowNumbers, Self
 
@@ -73,6 +74,8 @@ class Table(TableHere, Sharded):
         rows: Optional[int] = None,
         *,
         key_type: Any = None,
+        key_decimals: Optional[int] = None,
+        payload_decimals: Optional[int] = None,
         shards: Optional[int] = None,
         partitions: Optional[int] = None,
         splits: Optional[Sequence[Any]] = None,
@@ -91,6 +94,10 @@ class Table(TableHere, Sharded):
         key_type : str or type, optional
             The type of the keys: "int64", "uint64", "float64", "datetime64[s]" .. The default is the type of `sample`,
             or "int64" without a sample.
+        key_decimals, payload_decimals : int, optional
+            The numbers of decimal places of keys and payloads, 0 to 9. With `payload_decimals=2` the payload 12.34 is
+            stored as the integer 1234, exactly. Payloads may then be integers, decimals, fractions or floats. A float is
+            rounded, half to even, if it is within one part in 10**9 of such a decimal, and else refused.
         shards : int, optional
             The number of shards, 1 to 1024. The default is one for each 50,000 rows, at most one for each processor and
             at most 16; without numpy it is 1. There are never more shards than partitions.
@@ -109,7 +116,8 @@ class Table(TableHere, Sharded):
         if policy not in POLICIES:
             raise ValueError(f"policy must be one of {', '.join(POLICIES)}, not {policy}")
         library()
-        self._keys, self._policy = kind_of(sample) if key_type is None else Keys.named(key_type), policy
+        self._keys, sample = keys_for(sample, key_type, key_decimals)
+        self._payloads, self._policy = PayloadType(payload_decimals), policy
         has_ends = len(sample) > 0 or splits is not None
         count = self._shards_for(len(sample) if rows is None else rows, shards, has_ends or partitions == 1)
         cuts = splits_of(self._keys, sample, rows, partitions, splits, shards, count)
@@ -152,7 +160,16 @@ class Table(TableHere, Sharded):
             self._parts = np.array([*(it.partitions for it in self._shards), 0], np.uint64)
 
     @classmethod
-    def from_arrays(cls, keys: Any, payloads: Any = None, *, progress: Progress = None, **options: Any) -> Self:
+    def from_arrays(
+        cls,
+        keys: Any,
+        payloads: Any = None,
+        *,
+        key_decimals: Optional[int] = None,
+        payload_decimals: Optional[int] = None,
+        progress: Progress = None,
+        **options: Any,
+    ) -> Self:
         """Creates a table of these rows and merges them all.
 
         Parameters
@@ -160,6 +177,8 @@ class Table(TableHere, Sharded):
         keys : array_like
         payloads : array_like, optional
             The default is 0, 1, 2 ..
+        key_decimals, payload_decimals : int, optional
+            Those of `Table`. Floats and decimals need them.
         progress : bool or callable, optional
             True reports progress on standard error. A function is called with the number of rows inserted so far and
             the number of all rows.
@@ -171,9 +190,17 @@ class Table(TableHere, Sharded):
         Table
             Its `row_numbers` are the numbers of the rows, in the order of the arrays.
         """
-        keys = items_of(keys, "keys")
+        keys = items_of(keys, "keys") if key_decimals is None else decimals_of(keys, key_decimals, "keys")
+        if payloads is not None:
+            payloads = items_of(payloads, "payloads")
+            if payload_decimals is not None:
+                payloads = decimals_of(payloads, payload_decimals, "payloads")
+            elif isinstance(payloads, Scaled):
+                payload_decimals = payloads.decimals
         # `Table` maps each key of a sample to a number, so it gets only some keys of a long array
-        sample = keys[:: max(1, len(keys) // SAMPLED)] if np is not None and isinstance(keys, np.ndarray) else keys
+        is_long = np is not None and isinstance(keys, (np.ndarray, Scaled))
+        sample = keys[:: max(1, len(keys) // SAMPLED)] if is_long else keys
+        options |= {"key_decimals": key_decimals, "payload_decimals": payload_decimals}
         table = cls(sample, len(keys), **options)
         if payloads is None:
             payloads = range(len(keys)) if np is None else np.arange(len(keys))
@@ -292,7 +319,7 @@ class Table(TableHere, Sharded):
         if taken.row is None:
             return
         key, payload = taken.row
-        error.row = Row(self._keys.back_one(key), payload)
+        error.row = self._row_of(key, payload)
         if not len(rows_of(placed)):
             try:
                 self._place_one(placed, key, payload)
