@@ -57,8 +57,11 @@ def expect(what: object, wanted: object, got: object) -> None:
 
 
 def built(name: str = "crackd", top: pathlib.Path | None = None) -> str:
-    """The path of a program of this checkout or of another. CRACKD may name that of this checkout's `crackd`."""
+    """The path of a program of this checkout, or of another: the proved one, or else the unproved one. CRACKD may name
+    that of this checkout's `crackd`."""
     own = (top or TOP) / "crates" / name / "out" / name
+    unproved = own.with_name(f"{name}-unproved")
+    own = unproved if unproved.exists() and not own.exists() else own
     return str(pathlib.Path(os.environ.get("CRACKD", own) if name == "crackd" and not top else own).resolve())
 
 

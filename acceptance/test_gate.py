@@ -10,7 +10,14 @@ import unittest
 
 TOP = pathlib.Path(__file__).resolve().parent.parent
 # each step's script, and how many tests pass in it
-STEPS = {"tools/prove.py": 25, "tools/tests.py": 1900, "tools/test_tools.py": 19, "tools/edits.py": 893}
+STEPS = {
+    "tools/prove.py": 25,
+    "tools/tests.py": 1900,
+    "tools/test_tools.py": 19,
+    "tools/test_builds.py": 1,
+    "tools/sums.py": 1,
+    "tools/edits.py": 893,
+}
 PROGRAM = "crates/crackd/out/crackd"
 FAILS = "raise SystemExit(1)"
 
@@ -40,7 +47,8 @@ class Gate(unittest.TestCase):
         status, lines = ran()
         self.assertEqual((status, lines[-1]), (0, f"{sum(STEPS.values())} passed, 0 failed"))
         self.assertEqual([it for it in lines[:-1] if re.fullmatch(r"\d+ passed, \d+ failed", it)], [])
-        seconds = r"seconds on \d+ processors: whole \d+, proofs \d+, tests \d+, tools \d+, edits \d+"
+        steps = ", ".join(rf"{it} \d+" for it in ("proofs", "tests", "tools", "builds", "sums", "edits"))
+        seconds = rf"seconds on \d+ processors: whole \d+, {steps}"
         self.assertRegex(lines[-2], f"^{seconds}$")
 
     def test_what_was_skipped_is_counted_at_the_end(self) -> None:

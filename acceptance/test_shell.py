@@ -25,7 +25,7 @@ TIME = r"  \([0-9.]+ m?s\)\n"
 # the line of progress, which appears if the machine is slow for a moment
 PROGRESS = "(?:\r.*)?"
 EVERYTHING = f"0 {MOST}"
-SERVED = r"^crackd on port \d+; .*\n"
+SERVED = r"^crackd( \d+\.\d+\.\d+( \(\w[\w ]*\))?)? on port \d+; .*\n"
 
 
 class Shell(fixtures.Terminal):

@@ -202,7 +202,7 @@ def earlier(folder):
     programs = Programs(pathlib.Path(folder).resolve())
     missing = [str(programs.path(name)) for name in NAMES if not programs.path(name).is_file()]
     if missing:
-        how = "run `python3 tools/prove.py crackd crack_bench` there"
+        how = "run `python3 tools/prove.py crackd` and `python3 tools/build.py bench` there"
         sys.exit(f"--before {folder}: its programs aren't built ({how}): {', '.join(missing)} missing")
     return programs
 

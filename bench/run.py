@@ -5,8 +5,8 @@
 WHAT is session, tcp, latency, crowds, stalls, csv, batch, instructions, splits, memory, served, arena, column,
 partition, cold, updates, ageing, policies, steps, folds, growth, workers, asking, gathering, unaudited, python or
 shards; without a word, all of them. python and shards are the package's table in the process, if numpy and libcrackd.so
-are there; their times also go into docs/PYTHON.md. It needs a quiet machine, rustc, and the programs, which are built
-(and first proved, if they aren't) as `make run` does it. Each number is the median of five runs; with --once of one.
+are there; their times also go into docs/PYTHON.md. It needs a quiet machine, rustc, and the programs, which are built:
+crackd is proved, if it isn't, and crack_bench compiled. Each number is the median of five runs; with --once of one.
 The programs and their peers run in turn, so that all meet the same machine. Instructions are counted by valgrind if it
 is installed, and only once, since they are the same each time. It prints a table, and ends with status 1 if a ratio is
 above its bound, or a gain below it, or if a program and its peer don't compute the same.

@@ -86,7 +86,8 @@ typedef struct {
     uint64_t rows, column, pending_out, pending_in, cells, free, pieces;
 } crackd_totals;
 
-/* The version, followed by " (unproved)" if the library was built without a proof. The text belongs to the library. */
+/* The version. It ends with " (proved elsewhere)" if the library was built without a proof from sources that were
+   proved, and with " (unproved)" if from others. The text belongs to the library. */
 const char *crackd_version(void);
 
 /* Opens an empty table in a handle that holds none. Splits are at most 63 rising keys, 1 to 2^64 - 1; each is the first

@@ -14,6 +14,7 @@ from unittest import mock
 # `python3 -m unittest tools.test_tools` runs in the top folder
 sys.path.insert(0, str(pathlib.Path(__file__).resolve().parent))
 
+import build
 import crates
 import defined
 import documents
@@ -23,7 +24,9 @@ import graph
 import kept
 import numbers_held
 import prove
+import sums
 import trust
+import unproved
 from reading import definitions, promises, sources
 
 SHELF = {
@@ -317,6 +320,144 @@ class Proving(unittest.TestCase):
         top = folder_with(self, {"crates/crack_row/out/proved/stamp": ""})
         with mock.patch.object(crates, "TOP", top):
             self.assertFalse(prove.is_current(crate))
+
+
+# a module as the toolchain makes it, with one check and one new variable
+MODULE = """; ModuleID = 'module.bc'
+define internal i64 @"a::third"(ptr %a0) #0 {
+start:
+  %r0 = alloca i8, align 1
+  call void @llvm.memset.p0.i64(ptr %r0, i8 -86, i64 1, i1 false)
+  call void @llvm.memset.p0.i64(ptr %a0, i8 -86, i64 1, i1 false)
+  call void @"rattle-llvm-checks::Value"(i8 0)
+  ret i64 3
+}
+
+define internal void @"rattle-llvm-checks::Value"(i8 %a0) #7 {
+start:
+  %r0 = icmp ne i8 %a0, 0
+  br i1 %r0, label %true, label %false
+
+true:                                             ; preds = %start
+  ret void
+
+false:                                            ; preds = %start
+  call void @llvm.trap()
+  unreachable
+}
+
+attributes #7 = { sanitize_address "frame-pointer"="all" }
+"""
+
+
+class Builds(unittest.TestCase):
+    """What is compiled without a proof. Nothing is compiled here: tools/test_builds.py does that."""
+
+    def test_a_module_keeps_its_checks_unless_it_was_proved(self):
+        checked = unproved.finished(MODULE, True, True)
+        self.assertNotIn("sanitize_address", checked)
+        self.assertIn("@llvm.trap()", checked)
+        self.assertIn("PIE Level", checked)
+        self.assertIn("!llvm.module.flags = !{!100000001}\n", unproved.finished(MODULE, False, True))
+        trusted = unproved.finished(MODULE, True, False)
+        self.assertNotIn("@llvm.trap()", trusted)
+        assumed = '@"rattle-llvm-checks::Value"(i8 %a0) alwaysinline #7 {\nstart:\n  %r0 = icmp ne i8 %a0, 0\n'
+        self.assertIn(f"{assumed}  call void @llvm.assume(i1 %r0)\n  ret void\n}}\n", trusted)
+        # only a new variable's fill goes
+        self.assertEqual(re.findall(r"\(ptr (\S+), i8 -86", checked), ["%r0", "%a0"])
+        self.assertEqual(re.findall(r"\(ptr (\S+), i8 -86", trusted), ["%a0"])
+
+    def test_a_module_of_another_form_is_refused_and_the_toolchain_is_named(self):
+        toolchain = re.escape(crates.read(crates.kit("KIT-ID")).strip())
+        for old, new in [
+            (" sanitize_address", ""),
+            ("rattle-llvm-checks", "rattle-checks"),
+            ("icmp ne", "icmp eq"),
+            ("i8 -86", "i8 0"),
+            ("attributes", "!llvm.module.flags = !{!0}\nattributes"),
+        ]:
+            with self.subTest(old), self.assertRaisesRegex(SystemExit, f"toolchain.*{toolchain}"):
+                unproved.finished(MODULE.replace(old, new), True, False)
+
+    def small_tree(self, **texts):
+        """Two crates, and what stands for the folder at the top."""
+        files = {"crates.txt": "low:\ntop: low\n\n# not proved: tests\ntop_tests: top\n", "include/crackd.h": ""}
+        for name in ("low", "top", "top_tests"):
+            files[f"crates/{name}/src/lib.rt"] = texts.get(name, f"fn {name}() {{}}\n")
+        files["crates/low/proofs/Laws.antt"] = texts.get("proof", "a = refl\n")
+        files["crates/crack_arguments/src/lib.rt"] = 'pub const VERSION: &str = "1.2.3";\n'
+        top = folder_with(self, files)
+        for module in (crates, build):
+            patched = mock.patch.object(module, "TOP", top)
+            patched.start()
+            self.addCleanup(patched.stop)
+        for it in (crates.listed, crates.below, crates.own_sum, crates.sum_of):
+            it.cache_clear()
+            self.addCleanup(it.cache_clear)
+        return top
+
+    def test_where_a_crate_or_one_below_it_differs_the_checks_stay(self):
+        top = self.small_tree()
+        with mock.patch.object(sums, "FILE", top / "proved.txt"):
+            self.assertEqual(build.mark_of("top"), build.UNPROVED)
+            lines = [sums.line_of(it) for it in crates.proved()]
+            sums.FILE.write_text("\n".join(lines))
+            self.assertEqual([build.mark_of(it) for it in ("low", "top", "top_tests")], [build.ELSEWHERE] * 3)
+            self.assertEqual(build.version(build.mark_of("top")), "crackd 1.2.3 (proved elsewhere)")
+            for changed, wanted in (("low", ["low", "top"]), ("top", ["top"]), ("proof", ["low", "top"])):
+                self.small_tree(**{changed: "fn changed() {}\n"})
+                self.assertEqual([it for it in ("low", "top") if build.mark_of(it) == build.UNPROVED], wanted)
+            # another toolchain
+            self.small_tree()
+            with mock.patch.object(crates, "kit_sum", lambda: "another"):
+                self.assertEqual(build.mark_of("low"), build.UNPROVED)
+
+    def test_sums_that_are_stale_are_skipped_and_those_of_these_sources_pass(self):
+        top = self.small_tree()
+        with mock.patch.object(sums, "FILE", top / "proved.txt"):
+            for lines, wanted in (
+                ([], "0 passed, 0 failed, 1 skipped"),
+                ([sums.line_of(it) for it in crates.proved()], "1 passed, 0 failed"),
+                (["low 0 0", "top 0 0"], "0 passed, 0 failed, 1 skipped"),
+            ):
+                sums.FILE.write_text("".join(f"{it}\n" for it in lines))
+                with contextlib.redirect_stdout(io.StringIO()) as said:
+                    self.assertEqual(sums.main(["--check"]), 0)
+                self.assertEqual(said.getvalue().splitlines()[-1], wanted)
+                self.assertEqual("make sums" in said.getvalue(), "skipped" in wanted)
+
+    def test_sums_are_not_written_without_a_proof(self):
+        top = self.small_tree()
+        with mock.patch.object(sums, "FILE", top / "proved.txt"):
+            with mock.patch.object(prove, "prove_names", lambda names: False):
+                self.assertEqual(sums.main([]), 1)
+            with mock.patch.object(prove, "prove_names", lambda names: True):
+                self.assertRaises(SystemExit, sums.main, [])
+            self.assertFalse(sums.FILE.exists())
+            both = mock.patch.multiple(prove, prove_names=lambda names: True, is_current=lambda crate: True)
+            with both, contextlib.redirect_stderr(io.StringIO()):
+                self.assertEqual(sums.main([]), 0)
+            self.assertEqual([it.split()[0] for it in sums.known()], ["low", "top"])
+            self.assertEqual(build.mark_of("top"), build.ELSEWHERE)
+
+    def test_a_build_is_of_its_sources_version_and_tools(self):
+        self.small_tree()
+        path = folder_with(self, {"made": "one", "other": "two"}) / "made"
+        told = build.told_of("top", build.UNPROVED)
+        self.assertFalse(build.is_made(path, told))
+        build.put(path.with_name("other"), path, told)
+        self.assertTrue(build.is_made(path, told))
+        self.assertEqual(path.read_text(), "two")
+        self.assertFalse(build.is_made(path, build.told_of("top", build.ELSEWHERE)))
+        self.small_tree(low="fn changed() {}\n")
+        self.assertFalse(build.is_made(path, build.told_of("top", build.UNPROVED)))
+        build.remove(path)
+        self.assertEqual(sorted(it.name for it in path.parent.iterdir()), ["other"])
+
+    def test_program_and_package_have_one_version(self):
+        pages = {it: crates.read(crates.TOP / "python" / it) for it in ("pyproject.toml", "crackd/__init__.py")}
+        found = [re.search(r'(?m)^(?:__)?version(?:__)? = "(.*)"$', it)[1] for it in pages.values()]
+        self.assertEqual({f"crackd {it}" for it in found}, {build.version("")})
 
 
 class Reading(unittest.TestCase):

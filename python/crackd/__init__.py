@@ -34,7 +34,7 @@ from .server import NoServer, Server, serve
 from .source import CsvError
 from .table import Table
 
-__version__ = "0.1"
+__version__ = "0.1.0"
 
 __all__ = [
     "AsyncTable",

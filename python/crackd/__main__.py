@@ -15,7 +15,7 @@ import os
 import sys
 from typing import Callable
 
-from . import __version__
+from . import __version__, version
 from .arrays import TOP
 from .base import MOST_PARTS
 from .csvfile import Column, CsvFile
@@ -69,10 +69,18 @@ def handed(words: list[str]) -> int:
     os.execv(path, [path, *words])
 
 
+def version_here() -> str:
+    """The version of the library, or that of the package if there is no library."""
+    try:
+        return version()
+    except ImportError:
+        return f"crackd {__version__}"
+
+
 def main(words: list[str]) -> int:
     """Runs the command that the words name, or prints the help. Returns the exit status."""
     if words[:1] in (["--version"], ["-V"]):
-        print(f"crackd {__version__}")
+        print(version_here())
         return 0
     if words[:1] == ["shell"]:
         from .shell import main as shell

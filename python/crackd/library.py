@@ -90,8 +90,8 @@ def library() -> Library:
         path = find_library()
         if path is None:
             raise ImportError(
-                f"{NAMES[0]} isn't built: run `make lib` in the repository, which puts it into {HERE}, or set "
-                "CRACKD_LIBRARY to its path"
+                f"{NAMES[0]} isn't built: run `make lib-unproved` in the repository, or `make lib`, which proves it; "
+                f"both put it into {HERE}. Or set CRACKD_LIBRARY to its path"
             )
         try:
             _loaded = Library(path)
@@ -101,5 +101,6 @@ def library() -> Library:
 
 
 def version() -> str:
-    """The version of the library, followed by " (unproved)" if it was built without a proof."""
+    """The version of the library. It ends with " (proved elsewhere)" if it was built without a proof from sources that
+    were proved, and with " (unproved)" if from others."""
     return str(library().version)

@@ -21,7 +21,7 @@ from .keys import Keys, keys_for, quantiles
 
 TRIES = 5
 SECONDS_OF_AN_END = 10
-# the programs that `make run` and `make program-unproved` build, if this package is the one in a checkout's python/
+# the programs that `make prove` and `make run` build, if this package is the one in a checkout's python/
 BUILT = pathlib.Path(__file__).resolve().parent.parent.parent / "crates" / "crackd" / "out" / "crackd"
 UNPROVED = BUILT.with_name("crackd-unproved")
 
@@ -44,8 +44,7 @@ def find_program(path: Optional[str] = None) -> str:
         is_checkout = BUILT.parent.parent.exists()
         raise NoServer(
             (f"{BUILT} isn't built, and " if is_checkout else "")
-            + "PATH has no crackd; `make run` in the repository builds it, or in a minute, without a proof, "
-            + "`make program-unproved`"
+            + "PATH has no crackd; `make run` in the repository compiles it, and `make prove` proves it"
         )
     return str(found)
 
@@ -57,6 +56,16 @@ def program_of_path() -> Optional[str]:
         if found is not None and not is_script(found):
             return found
     return None
+
+
+def version_of(path: str) -> str:
+    """The version of the program at a path, as it says it, or `crackd` if it says none."""
+    try:
+        how: dict[str, Any] = {"capture_output": True, "text": True, "errors": "replace", "timeout": SECONDS_OF_AN_END}
+        lines = subprocess.run([path, "--version"], check=True, **how).stdout.splitlines()
+    except (OSError, subprocess.SubprocessError):
+        return "crackd"
+    return lines[0] if len(lines) == 1 and lines[0].startswith("crackd ") else "crackd"
 
 
 def called() -> str:
@@ -75,8 +84,8 @@ def is_script(path: str) -> bool:
 
 @functools.cache
 def _report_unproved() -> None:
-    """Reports once that the program in use isn't proved."""
-    print(f"crackd: using {UNPROVED}, which isn't proved", file=sys.stderr)
+    """Reports once that the program in use wasn't proved here."""
+    print(f"crackd: using {UNPROVED}, which wasn't proved here", file=sys.stderr)
 
 
 def free_port() -> int:

@@ -423,7 +423,10 @@ class Command(unittest.TestCase):
 
     def test_versions(self):
         for word in ("--version", "-V"):
-            self.assertEqual(self.run_program(word), (0, f"crackd {crackd.__version__}\n", ""))
+            with mock.patch.object(program, "version", lambda: "crackd 0.1.0 (proved elsewhere)"):
+                self.assertEqual(self.run_program(word), (0, "crackd 0.1.0 (proved elsewhere)\n", ""))
+            with mock.patch.object(program, "version", mock.Mock(side_effect=ImportError)):
+                self.assertEqual(self.run_program(word), (0, f"crackd {crackd.__version__}\n", ""))
 
     def test_files(self):
         with tempfile.TemporaryDirectory() as room:

@@ -21,7 +21,7 @@ from ..base import POLICIES
 from ..channel import Channel
 from ..errors import Disconnected
 from ..layout import rows_text
-from ..server import NoServer, called, find_program
+from ..server import NoServer, called, find_program, version_of
 from . import modes, typing
 from .child import Interrupts, Server, channel_to
 from .session import HTTP, POLICY, Records, Reply, Session
@@ -361,12 +361,14 @@ def is_with_a_person() -> bool:
     return sys.stdin.isatty() and sys.stdout.isatty()
 
 
-def talk(session: Session, port: int, file: Optional[str], interrupts: Interrupts) -> bool:
+def talk(
+    session: Session, port: int, file: Optional[str], interrupts: Interrupts, version: str = "crackd"
+) -> bool:
     """Runs a session with the server at a port, which begins with a load of `file`, if there is one. Returns whether
-    everything was done."""
+    everything was done. `version` is that of the server's program, if it is known."""
     is_terminal = is_with_a_person()
     if is_terminal:
-        print(f"crackd on port {port}; help lists the statements, control-D ends")
+        print(f"{version} on port {port}; help lists the statements, control-D ends")
     shell = Shell(session, interrupts, is_terminal)
     if file is not None and not shell.has_loaded(file):
         shell.quit()
@@ -400,7 +402,8 @@ def talk_to_own(options: Any, interrupts: Interrupts) -> bool:
     named = {"--limit": options.limit, "--cells": options.cells, "--life": options.life, "--policy": policy}
     words = [word for name, value in named.items() if value for word in (name, value)]
     with interrupts.breaking_in():
-        server = Server(program_of(options.program), [*words, *options.splits])
+        path = program_of(options.program)
+        server = Server(path, [*words, *options.splits])
 
     def renewed(splits: list[int]) -> Channel:
         server.renew([*words, *map(str, splits)])
@@ -410,7 +413,8 @@ def talk_to_own(options: Any, interrupts: Interrupts) -> bool:
         channel_to(server.port, interrupts), interrupts, policy, None if options.splits else renewed
     )
     try:
-        is_done = talk(session, server.port, options.file, interrupts)
+        version = version_of(path) if is_with_a_person() else "crackd"
+        is_done = talk(session, server.port, options.file, interrupts, version)
         totals = server.totals()
         if is_with_a_person():
             print(totals)
