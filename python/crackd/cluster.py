@@ -7,22 +7,19 @@ dask.distributed.
 
 from __future__ import annotations
 
-import json
-import os
-import pathlib
 import threading
-import uuid
 from typing import Any, Callable, Iterator, Optional, Sequence
 
 from .arrays import TOP, np, whole
 from .base import POLICIES, POLICY, parts_for
 from .errors import Closed, Error, ShardLost
 from .decimals import PayloadType
+from .folders import folder_of, reading, saving, write_manifest
 from .keys import Keys, keys_for, quantiles
 from .layout import keys_text
 from .local import HISTORY, MOST_CELLS
 from .routing import MOST_SHARDS, Cut, Sharded, checked_splits
-from .saved import BadSave, types_of_head
+from .saved import BadSave, kept_of
 from .shard import (
     SECONDS_OF_A_LOOK,
     TIMEOUTS,
@@ -43,9 +40,6 @@ from distributed import Actor, Client, Future, wait
 
 __all__ = ["BadSave", "ShardFailed", "ShardLost", "Table"]
 
-MANIFEST = "manifest.json"
-# the number of the file format, which is written into each manifest
-FORM = 2
 # the greatest number of rows that one task loads from a file
 ROWS_A_TASK = 1_000_000
 
@@ -264,33 +258,20 @@ class Table(Sharded):
     def save(self, folder: Any) -> dict[str, Any]:  # type: ignore[override]
         """Has each shard's worker write its rows to a folder that the client and all workers share.
 
-        Each file is a numpy array with the fields `key` and `payload`. An earlier save in the folder is removed only
-        after everything is written. Returns the manifest.
+        Each file is a numpy array with the fields `key` and `payload`, as `crackd.Table.save` writes it. An earlier
+        save in the folder is removed only after everything is written. Of several saves at a time one stands. Returns
+        the manifest.
         """
-        folder = pathlib.Path(folder).resolve()
-        folder.mkdir(parents=True, exist_ok=True)
-        mark = uuid.uuid4().hex[:12]
-        files = [f"shard-{it:04}-{mark}.npy" for it in range(self.shards)]
-        part = folder / f"{MANIFEST}.{mark}"
-        try:
-            saved = self._all({it: Cut((str(folder / name),)) for it, name in enumerate(files)}, "save")
+        room = folder_of(folder)
+        room.mkdir(parents=True, exist_ok=True)
+        with saving(room, self.shards) as files:
+            saved = self._all({it: Cut((str(room / name), self._said)) for it, name in enumerate(files)}, "save")
             for name in files:
-                if not (folder / name).exists():
-                    raise BadSave(f"{folder} isn't shared: a worker wrote {name}, and it isn't there")
-            types = types_of_head(self._keys, self._payloads)
-            manifest = {"form": FORM, "keys": self._keys.name, **types, "splits": self._shard_cuts.tolist(), "files": files}
-            manifest |= {"counts": [it[0] for it in saved.values()], "sums": [it[1] for it in saved.values()]}
-            write_synced(part, json.dumps(manifest, indent=1) + "\n")
-        except BaseException:
-            for name in (*files, part.name):
-                (folder / name).unlink(missing_ok=True)
-            raise
-        os.replace(part, folder / MANIFEST)
-        sync_folder(folder)
-        for old in folder.glob("shard-*.np*"):
-            if old.name not in files:
-                old.unlink(missing_ok=True)
-        return manifest
+                if not (room / name).exists():
+                    raise BadSave(f"{room} isn't shared: a worker wrote {name}, and it isn't there")
+            told = {"keys": self._keys.name, "splits": self._shard_cuts.tolist(), "files": files}
+            told |= {"counts": [it[0] for it in saved.values()], "sums": [it[1] for it in saved.values()]}
+            return write_manifest(room, {**told, **self._said})
 
     @classmethod
     def load(cls, client: Client, folder: Any, **options: Any) -> "Table":
@@ -301,13 +282,26 @@ class Table(Sharded):
     def restore(cls, client: Client, folder: Any, *, shards: Optional[int] = None, **options: Any) -> "Table":
         """Loads a table that `save` wrote onto the present workers: a shard per worker, or `shards` of them.
 
-        Rows get new numbers. Raises `BadSave` if counts or sums differ from those in the manifest.
+        Rows get new numbers. Raises `BadSave` if the files aren't those that were saved. Other saves to the folder may
+        run meanwhile.
         """
-        folder = pathlib.Path(folder).resolve()
-        manifest = read_manifest(folder / MANIFEST)
-        kind, counts = kind_of_manifest(manifest), manifest["counts"]
-        options = {"payload_decimals": manifest.get("payload_decimals", 0), **options}
-        paths = [str(folder / it) for it in manifest["files"]]
+        room = folder_of(folder)
+        with reading(room) as manifest:
+            paths = [str(room / it) for it in manifest["files"]]
+            return cls._restored(client, manifest, paths, shards, options)
+
+    @classmethod
+    def _restored(
+        cls,
+        client: Client,
+        manifest: dict[str, Any],
+        paths: list[str],
+        shards: Optional[int],
+        options: dict[str, Any],
+    ) -> "Table":
+        """A table of the parts of a manifest, which are at these paths."""
+        kind = Keys.named(manifest["keys"]).with_decimals(manifest["key_decimals"])
+        counts, options = manifest["counts"], {"payload_decimals": manifest["payload_decimals"], **options}
         samples = client.gather(client.map(sample_of_file, paths, counts, [kind] * len(paths), pure=False))
         table = cls._empty(client, kind, samples, shards, options)
         pieces = [
@@ -320,6 +314,7 @@ class Table(Sharded):
             words = {"kind": kind, "places": places, "cuts": table._shard_cuts}
             return [client.submit(load_file, at, *it, **words, pure=False) for at, it in enumerate(pieces)]
 
+        table._told = kept_of(manifest)
         return table._loaded(loads, lambda: table._check_restored(manifest))
 
     def _check_restored(self, manifest: dict[str, Any]) -> None:
@@ -439,39 +434,3 @@ def ends_text(keys: Keys, low: int, high: int) -> str:
     if high == TOP:
         return f"keys from {keys.back_one(low)}"
     return f"keys {keys_text(keys, low, high)}"
-
-
-def write_synced(path: pathlib.Path, text: str) -> None:
-    """Writes an ASCII text to a file, and waits until it is on disk."""
-    with open(path, "w", encoding="ascii") as file:
-        file.write(text)
-        file.flush()
-        os.fsync(file.fileno())
-
-
-def sync_folder(folder: pathlib.Path) -> None:
-    """Flushes the folder's entries to disk."""
-    at = os.open(folder, os.O_RDONLY)
-    try:
-        os.fsync(at)
-    finally:
-        os.close(at)
-
-
-def kind_of_manifest(manifest: dict[str, Any]) -> Keys:
-    """The type of the keys of a save."""
-    return Keys.named(manifest["keys"]).with_decimals(manifest.get("key_decimals", 0))
-
-
-def read_manifest(path: pathlib.Path) -> dict[str, Any]:
-    """Reads the manifest of a save. Raises `BadSave` if the file is anything else."""
-    try:
-        manifest: dict[str, Any] = json.loads(path.read_text(encoding="ascii"))
-        lists = [manifest[it] for it in ("files", "counts", "sums")]
-        kind_of_manifest(manifest), PayloadType(manifest.get("payload_decimals"))
-        is_whole = manifest["form"] == FORM and {len(it) for it in lists} == {len(manifest["splits"]) + 1}
-    except (ValueError, KeyError, TypeError) as error:
-        raise BadSave(f"{path} is no manifest: {type(error).__name__}: {error}") from error
-    if not is_whole:
-        raise BadSave(f"{path} is no manifest of form {FORM}")
-    return manifest

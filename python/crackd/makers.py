@@ -8,7 +8,7 @@ from typing import Any, Iterator, Optional, TypeVar, overload
 from .base import AnyTable
 from .decimals import keys_with_decimals, payloads_with_decimals
 from .frames import columns_of_arrow, columns_of_pandas
-from .saved import read_rows
+from .saved import read_saved
 from .typed import Progress, Self
 
 Other = TypeVar("Other", bound=AnyTable)
@@ -125,16 +125,19 @@ class TableHere(AnyTable):
     def load(cls, path: Any, *, into: Any = None, progress: Progress = None, **options: Any) -> Any:
         """Loads the rows of a file that `save` wrote into a new table, or into the table `into`, and merges them.
 
-        Rows get new numbers. Raises `BadSave` if the file isn't one that `save` writes. Options are those of `Table`,
-        and only for a new table.
+        Rows get new numbers. Raises `BadSave` if the file isn't one that `save` writes, or has changed since then.
+        Options are those of `Table`, and only for a new table.
         """
-        kind, payload_type, rows = read_rows(path)
-        keys, payloads = kind.of_raw(rows["key"]), payload_type.exact(rows["payload"])
+        kind, payloads, rows, told = read_saved(path)
+        keys, values = kind.of_raw(rows["key"]), payloads.exact(rows["payload"])
         if into is None:
-            return cls.from_arrays(keys, payloads, **{"key_type": kind, **options}, progress=progress)
+            options = {"key_type": kind, "payload_decimals": payloads.decimals, **options}
+            table = cls.from_arrays(keys, values, **options, progress=progress)
+            table._told = told
+            return table
         if options:
             raise TypeError(f"options are for a new table: {', '.join(options)}")
-        into.insert_rows(keys, payloads, progress=progress)
+        into.insert_rows(keys, values, progress=progress)
         into.settle()
         return into
 

@@ -3,13 +3,14 @@
 from __future__ import annotations
 
 import abc
-from typing import Any, Callable, Generator, Iterable, Optional, TypeVar
+from typing import Any, Callable, Generator, Iterable, Mapping, Optional, TypeVar
 
 from .arrays import ints
 from .decimals import INTEGERS, PayloadType
 from .forks import NoLock, leave_in_children
 from .keys import Keys
 from .layout import PartLayout
+from .saved import types_of
 from .rows import Row, Rows
 from .typed import Counts, RowNumbers
 
@@ -29,11 +30,18 @@ class Primitives(abc.ABC):
     _is_here = False
     # the ends of each partition's keys, by partition number, once they are known; they never change
     _ends: Optional[dict[int, tuple[int, int]]] = None
+    # what a save says about the rows beside the rows and their types, by the names of `saved.FIELDS`
+    _told: Mapping[str, Any] = {}
 
     def __new__(cls, *_: Any, **__: Any) -> Any:
         table = super().__new__(cls)
         leave_in_children(table)
         return table
+
+    @property
+    def _said(self) -> dict[str, Any]:
+        """What a save says about the rows beside the rows themselves."""
+        return {**types_of(self._keys, self._payloads), **self._told}
 
     @property
     def key_type(self) -> str:

@@ -277,18 +277,24 @@ class Questions(Primitives):
     def save(self, path: Any) -> int:
         """Writes the rows to a file that `numpy.load` and `Table.load` read.
 
-        The file holds an array with the fields `key` and `payload`, without row numbers. An existing file is replaced
-        only after everything is written. This needs numpy.
+        The file holds an array with the fields `key` and `payload`, without row numbers, and a checksum. This needs
+        numpy.
 
         Returns
         -------
         int
             The number of rows written.
+
+        Notes
+        -----
+        A regular file is replaced only after everything is on disk, and keeps its mode and, if this process may set it,
+        its owner. Of several saves to one file at a time the last one stands. Through a symlink the file that it names
+        is replaced. A pipe or a device is written to.
         """
         return self._drive(self._save_steps(path))
 
     def _save_steps(self, path: Any) -> Steps[int]:
-        with writing(path, self._keys, self._payloads) as file:
+        with writing(path, self._keys, self._said) as file:
             yield from self._alone_steps(self._written_steps(file))
         return file.rows
 

@@ -7,10 +7,8 @@ from __future__ import annotations
 
 import asyncio
 import functools
-import os
-import pathlib
 import uuid
-from typing import Any, Callable, NamedTuple, Sequence
+from typing import Any, Callable, Mapping, NamedTuple, Sequence
 
 from .arrays import TOP, np
 from .decimals import PayloadType
@@ -18,7 +16,7 @@ from .errors import Error
 from .keys import Keys
 from .local import LocalShard
 from .routing import blocks_of, shard_of
-from .saved import BadSave, row_dtype
+from .saved import BadSave, read_saved, row_dtype, writing
 
 MISSING = "crackd.cluster needs numpy and dask.distributed: pip install numpy distributed"
 if np is None:
@@ -90,33 +88,15 @@ class Shard:
             self.rows.insert_many(keys, payloads)
             self.loaded.add(number)
 
-    def save(self, path: str) -> tuple[int, int]:
+    def save(self, path: str, told: Mapping[str, Any] = {}) -> tuple[int, int]:
         """Writes all rows to a file, partition by partition. Returns their number and the sum of their payloads."""
-        part = pathlib.Path(path + ".part")
-        try:
-            saved = self._write(part)
-            os.replace(part, path)
-        except BaseException:
-            part.unlink(missing_ok=True)
-            raise
-        return saved
-
-    def _write(self, part: pathlib.Path) -> tuple[int, int]:
-        count, total = self.rows.count(0, TOP - 1), 0
-        dtype = row_dtype(self.kind)
-        head = {"descr": np.lib.format.dtype_to_descr(dtype), "fortran_order": False, "shape": (count,)}
-        ends = [0, *self.rows.cuts, TOP]
-        with open(part, "wb") as file:
-            np.lib.format.write_array_header_1_0(file, head)
+        ends, total = [0, *self.rows.cuts, TOP], 0
+        with writing(path, self.kind, told) as file:
             for low, high in zip(ends, ends[1:]):
                 _, keys, payloads = self.rows.select(low, high - 1)
-                block = np.empty(len(keys), dtype)
-                block["key"], block["payload"] = self.kind.back(keys), payloads
+                file.add(keys, payloads)
                 total += exact_sum(payloads)
-                file.write(block.tobytes())
-            file.flush()
-            os.fsync(file.fileno())
-        return count, total
+        return file.rows, total
 
 
 def exact_sum(payloads: Any) -> int:
@@ -180,20 +160,23 @@ def sample_of(keys: Any) -> tuple[int, Any]:
     return len(keys), keys[:: max(1, len(keys) // SAMPLED)]
 
 
-def rows_of_file(path: str, count: int, kind: Keys) -> Any:
-    """The rows of a saved file, which are mapped into memory. Raises `BadSave` if the file isn't complete."""
+def rows_of_file(path: str, count: int, kind: Keys, *, is_checked: bool = False) -> Any:
+    """The rows of a saved file, which are mapped into memory. Raises `BadSave` if the file isn't complete.
+
+    If `is_checked` they are also compared with their checksum.
+    """
     try:
-        rows = np.load(path, mmap_mode="r")
-    except (OSError, ValueError, EOFError) as error:
-        raise BadSave(f"{path} can't be read: {error}") from error
+        rows = read_saved(path, is_checked=is_checked).rows
+    except OSError as error:
+        raise BadSave(f"{path} can't be read: {error.strerror}") from error
     if rows.dtype != row_dtype(kind) or rows.shape != (count,):
         raise BadSave(f"{path} hasn't {count} rows with keys of {kind.name}")
     return rows
 
 
 def sample_of_file(path: str, count: int, kind: Keys) -> tuple[int, Any]:
-    """The number of rows of a file, and a sample of the numbers of its keys."""
-    keys = rows_of_file(path, count, kind)["key"]
+    """The number of rows of a file, and a sample of the numbers of its keys. Compares the rows with their checksum."""
+    keys = rows_of_file(path, count, kind, is_checked=True)["key"]
     return count, kind.raw.many(sample_of(keys)[1])
 
 

@@ -477,8 +477,45 @@ class Saves(OnWorkers, unittest.TestCase):
         for word in words:
             self.assertIn(word, str(caught.exception))
 
-    def test_what_is_no_longer_as_it_was_saved(self):
+    def saved_earlier(self):
+        """The manifest of a save of the earlier form, which has no checksums."""
+        manifest = {**self.saved(), "form": 2}
+        del manifest["crc32"]
+        for name in manifest["files"]:
+            np.save(self.folder / name, np.load(self.folder / name))
+        (self.folder / "manifest.json").write_text(json.dumps(manifest, indent=1) + "\n")
+        return manifest
+
+    def test_a_save_of_the_earlier_form(self):
+        before = self.saved_earlier()
+        with self.restore(shards=2) as table:
+            self.assertEqual((table.count(), table.sum(0, 10)), (300, 55))
+            manifest = table.save(self.folder)
+        self.assertEqual((before["form"], manifest["form"]), (2, 3))
+        self.assertEqual(sorted(os.listdir(self.folder)), sorted(["manifest.json", *manifest["files"]]))
+
+    def test_what_was_changed(self):
+        """Each change is found by a checksum, also one that leaves counts and sums as they are."""
         manifest = self.saved()
+        path, first = self.folder / "manifest.json", self.folder / manifest["files"][0]
+        whole, content = path.read_text(), first.read_bytes()
+        for old, new in [("100,\n", "101,\n"), ("5050,\n", "5051,\n"), ("6008\n", "6009\n"), ("int64", "uint64")]:
+            path.write_text(whole.replace(old, new, 1))
+            self.assertNotEqual(path.read_text(), whole)
+            self.expect_bad("manifest.json is no manifest of form 3, or has changed")
+        path.write_text(whole)
+        rows = np.frombuffer(content[256:-1], crackd.saved.row_dtype(crackd.keys.Keys("i")), 100).copy()
+        rows["payload"][:2] += [1, -1]
+        first.write_bytes(content[:256] + rows.tobytes() + content[256 + rows.nbytes :])
+        self.expect_bad(first.name, "its rows have changed since they were saved")
+        first.write_bytes(content[:-1])
+        self.expect_bad(first.name, "can't be read: its last bytes are missing")
+        first.write_bytes(content)
+        with self.restore() as table:
+            self.assertEqual(table.sum(), 45150)
+
+    def test_what_is_no_longer_as_it_was_saved(self):
+        manifest = self.saved_earlier()
         path, first = self.folder / "manifest.json", self.folder / manifest["files"][0]
         whole, content = path.read_text(), first.read_bytes()
         for text in (
@@ -509,7 +546,7 @@ class Saves(OnWorkers, unittest.TestCase):
         self.assertRaises(FileNotFoundError, self.restore)
 
     def test_rows_of_another_shard_are_found_out(self):
-        manifest = self.saved()
+        manifest = self.saved_earlier()
         paths = [self.folder / it for it in manifest["files"][:2]]
         contents = [np.load(it) for it in paths]
         for content in contents:

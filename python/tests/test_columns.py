@@ -254,7 +254,7 @@ class Saves(unittest.TestCase):
         for text in [*texts, packed.getvalue()]:
             self.path.write_bytes(text)
             with self.subTest(text[:80]), self.assertRaises(saved.BadSave):
-                saved.read_rows(self.path)
+                saved.read_saved(self.path)
         self.path.write_bytes(whole.getvalue())
         kind, rows = saved.read_rows(self.path)
         self.assertEqual((kind.name, rows.tolist()), ("int64", [(1, 2), (3, 4)]))

@@ -2,6 +2,7 @@
 
 import contextlib
 import fractions
+import os
 import pathlib
 import random
 import tempfile
@@ -285,11 +286,21 @@ class Files:
                     self.assertEqual(sum(it.pending_in for it in loaded.layout().parts), 0)
 
     def test_all_is_written_before_it_is_synced(self):
-        part, synced = self.path.with_name("rows.npy.part"), []
-        with self.table() as table, mock.patch("os.fsync", lambda _: synced.append(part.read_bytes())):
+        synced, replaced, replace = [], [], os.replace
+
+        def sync(descriptor):
+            name = os.readlink(f"/proc/self/fd/{descriptor}")
+            synced.append(None if os.path.isdir(name) else pathlib.Path(name).read_bytes())
+
+        def renamed(*names):
+            replaced.append(len(synced))
+            replace(*names)
+
+        with self.table() as table, mock.patch.multiple(os, fsync=sync, replace=renamed):
             table.insert_many([1, 2, 3], [4, 5, 6])
             table.save(self.path)
-            self.assertEqual(synced, [self.path.read_bytes()])
+        # the file, then its name, then the folder
+        self.assertEqual((synced, replaced), ([self.path.read_bytes(), None], [1]))
 
     def test_no_rows(self):
         with self.table() as table:

@@ -1,5 +1,6 @@
 """A shard, and how a cluster's table combines the answers of several shards, without a cluster."""
 
+import json
 import os
 import pathlib
 import random
@@ -12,6 +13,9 @@ from unittest import mock
 from clusters import cluster, wants_cluster
 from kinds import KINDS, value
 from ways import crackd, np, wants_library
+
+if cluster is not None:
+    from crackd import folders
 
 LOST, LAST = "its worker is gone", 2**64 - 1
 
@@ -57,7 +61,9 @@ class Saves(unittest.TestCase):
         shard, steps = self.shard(crackd.keys.Keys("i"), [1, 2], [3, 4]), Steps()
         with steps.written():
             self.assertEqual(shard.ask("save", (f"{self.folder}/rows.npy",)), (shard.token, (2, 7)))
-        self.assertEqual(steps.steps, [("sync", "rows.npy.part"), ("replace", "rows.npy")])
+        (part, name), *then = steps.steps
+        self.assertRegex((part, name)[1], r"^rows\.npy\.[0-9a-f]{16}\.part$")
+        self.assertEqual((part, then), ("sync", [("replace", "rows.npy"), ("sync", self.folder.name)]))
         self.assertEqual(os.listdir(self.folder), ["rows.npy"])
 
     def test_a_file_that_cannot_be_written_is_not_left(self):
@@ -83,12 +89,13 @@ class Saves(unittest.TestCase):
                 self.assertEqual(sorted(found), sorted(zip(map(value, kind.keys), kind.payloads)))
 
     def test_a_manifest_is_on_the_disk_before_it_has_its_name(self):
-        steps, path = Steps(), self.folder / "manifest"
+        steps, path = Steps(), self.folder / "manifest.json"
         with steps.written():
-            cluster.write_synced(path, "text\n")
-            cluster.sync_folder(self.folder)
-        self.assertEqual(steps.steps, [("sync", "manifest"), ("sync", self.folder.name)])
-        self.assertEqual(path.read_text(), "text\n")
+            manifest = folders.write_manifest(self.folder, {"keys": "int64"})
+        self.assertEqual(steps.steps[1:], [("replace", "manifest.json"), ("sync", self.folder.name)])
+        self.assertRegex(steps.steps[0][1], r"^manifest\.json\.[0-9a-f]{16}\.part$")
+        self.assertEqual(json.loads(path.read_text()), manifest)
+        self.assertEqual((manifest["form"], manifest["keys"], os.listdir(self.folder)), (3, "int64", ["manifest.json"]))
 
     def test_a_block_is_loaded_once_and_by_its_own_shard(self):
         shard = self.shard(crackd.keys.Keys("u"), [], [])
@@ -274,8 +281,22 @@ class Parts(unittest.TestCase):
             path = pathlib.Path(room) / "manifest.json"
             whole = '{"form": 2, "keys": "int64", "splits": [5], "files": ["a", "b"], "counts": [1, 2], "sums": [3, 4]}'
             path.write_text(whole)
-            self.assertEqual(cluster.read_manifest(path)["counts"], [1, 2])
+            self.assertEqual(folders.read_manifest(path)["counts"], [1, 2])
             for old, new in [
+                ("[5]", "[0]"),
+                ("[5]", "[5.0]"),
+                ("[5]", "[-5]"),
+                ("[5]", f"[{2**64}]"),
+                ("[1, 2]", "[1, true]"),
+                ("[1, 2]", "[1, -2]"),
+                ("[3, 4]", '["3", 4]'),
+                ("[3, 4]", "[3, NaN]"),
+                ('"b"', '"../b"'),
+                ('"b"', "2"),
+                ('"form": 2', '"form": 2, "zone": "UTC"'),
+                ('"form": 2', '"form": 2, "crc32": 5'),
+                (whole, "\u00e9"),
+                (whole, "[" * 100_000),
                 ('"form": 2', '"form": 3'),
                 ('"form": 2, ', ""),
                 ("[5]", "[]"),
@@ -292,7 +313,7 @@ class Parts(unittest.TestCase):
             ]:
                 path.write_text(whole.replace(old, new, 1))
                 with self.subTest(old=old, new=new):
-                    self.assertRaises(cluster.BadSave, cluster.read_manifest, path)
+                    self.assertRaisesRegex(cluster.BadSave, "manifest.json", folders.read_manifest, path)
 
 
 if __name__ == "__main__":

@@ -12,7 +12,9 @@ from unittest import mock
 import ways  # finds the package
 
 from crackd.shell import statements, texts, typing
-from crackd.shell.console import replacing, with_ends
+from crackd.shell.console import with_ends
+from crackd.shell.session import Loaded, Records
+from crackd.wholefile import whole_text
 
 TOP = b"18446744073709551616"
 
@@ -42,7 +44,7 @@ class Files(unittest.TestCase):
         target, link = self.room / "rows.csv", self.room / "link.csv"
         target.write_text("old")
         link.symlink_to(target)
-        with replacing(str(link)) as file:
+        with whole_text(str(link)) as file:
             file.write("new")
         self.assertEqual((link.is_symlink(), target.read_text()), (True, "new"))
         self.assertEqual(sorted(it.name for it in self.room.iterdir()), ["link.csv", "rows.csv"])

@@ -12,6 +12,7 @@ from unittest import mock
 import ways  # finds the package
 from test_shell_replies import Answering, Calm
 
+from crackd import wholefile
 from crackd.shell import child, console, modes, texts
 from crackd.shell.session import Session
 
@@ -61,7 +62,7 @@ class Replacing(InARoom):
                 if is_there:
                     path.write_text(OLD)
                 with self.assertRaises(fault if isinstance(fault, type) else type(fault)):
-                    with console.replacing(str(path)) as file:
+                    with wholefile.whole_text(path) as file:
                         file.write("new")
                         raise fault
                 self.assertEqual(self.names(), ["rows.csv"] * is_there)
@@ -72,7 +73,7 @@ class Replacing(InARoom):
     def test_it_is_replaced_at_the_end_alone(self):
         path = self.room / "rows.csv"
         path.write_text(OLD)
-        with console.replacing(str(path)) as file:
+        with wholefile.whole_text(str(path)) as file:
             file.write("new")
             file.flush()
             self.assertEqual(path.read_text(), OLD)
@@ -82,10 +83,10 @@ class Replacing(InARoom):
         (self.room / "rows.csv").write_text(OLD)
         (self.room / "rows.csv.part").write_text("of another")
         _, out, errors = self.run_lines(f".save {self.room}/rows.csv")
-        self.assertEqual(out, "")
-        self.assertEqual(errors, f"shell: not saved: {self.room}/rows.csv.part: File exists\n")
-        self.assertEqual((self.room / "rows.csv").read_text(), OLD)
+        self.assertEqual((out, errors), (f"saved 2 rows to {self.room}/rows.csv\n", ""))
+        self.assertEqual((self.room / "rows.csv").read_text(), "key,payload\n7,70\n8,-80\n")
         self.assertEqual((self.room / "rows.csv.part").read_text(), "of another")
+        self.assertEqual(self.names(), ["rows.csv", "rows.csv.part"])
 
     def test_a_pipe_is_written_and_not_replaced(self):
         pipe, got = self.room / "pipe", []
@@ -103,7 +104,7 @@ class Replacing(InARoom):
     def test_what_cannot_be_written(self):
         for path, said in [
             (f"{self.room}", f"not saved: {self.room}: Is a directory"),
-            (f"{self.room}/no/rows.csv", f"not saved: {self.room}/no/rows.csv.part: No such file or directory"),
+            (f"{self.room}/no/rows.csv", f"not saved: {self.room}/no/rows.csv: No such file or directory"),
         ]:
             shell, out, errors = self.run_lines(f".save {path}")
             self.assertEqual((out, errors, shell.faults), ("", f"shell: {said}\n", 1))

@@ -15,13 +15,14 @@ import os
 import signal
 import sys
 import time
-from typing import IO, Any, Callable, Iterable, Iterator, Optional, Union
+from typing import Any, Callable, Iterable, Iterator, Optional, Union
 
 from ..base import POLICIES
 from ..channel import Channel
 from ..errors import Disconnected
 from ..layout import rows_text
 from ..server import NoServer, called, find_program, version_of
+from ..wholefile import whole_text
 from . import modes, typing
 from .child import Interrupts, Server, channel_to
 from .session import HTTP, POLICY, Records, Reply, Session
@@ -41,25 +42,6 @@ def of_file(path: str) -> Iterator[None]:
         yield
     except (OSError, ValueError) as error:
         raise Fault(fault_text(path, error)) from error
-
-
-@contextlib.contextmanager
-def replacing(path: str) -> Iterator[IO[str]]:
-    """A context that writes a file. An existing regular file is replaced only at the end of the block."""
-    target = os.path.realpath(path)
-    if os.path.exists(target) and not os.path.isfile(target):
-        with open(target, "w", encoding="ascii") as file:
-            yield file
-        return
-    part = target + ".part"
-    file = open(part, "x", encoding="ascii")
-    try:
-        with file:
-            yield file
-        os.replace(part, target)
-    except BaseException:
-        os.unlink(part)
-        raise
 
 
 class Progress:
@@ -223,7 +205,7 @@ class Shell:
         """Writes all rows to a CSV file."""
         begun = time.perf_counter()
         try:
-            with of_file(path), replacing(path) as file:
+            with of_file(path), whole_text(path) as file:
                 rows = self.session.save(file)
         except Fault as fault:
             raise Fault(f"not saved: {fault}") from fault
