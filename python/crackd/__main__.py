@@ -5,7 +5,9 @@
   splits FILE.csv N  prints where to cut keys into partitions, for `crackd serve`
   picture SCRIPT     draws a column as the queries of a script crack it, as SVG
 
-Each has --help. script, batch, serve and csv are handed to the program crackd, if it is there.
+  serve              a server that drains at a signal, and loads and saves files
+
+Each has --help. script, batch and csv are handed to the program crackd, if it is there; serve runs it.
 """
 
 from __future__ import annotations
@@ -23,9 +25,10 @@ from .errors import Error
 from .keys import quantiles
 from .picture import main as picture
 from .server import called, find_program
+from .supervised import main as serve
 from .top import main as top
 
-OF_THE_PROGRAM = ("script", "batch", "serve", "csv")
+OF_THE_PROGRAM = ("script", "batch", "csv")
 
 
 def splits(words: list[str]) -> int:
@@ -86,7 +89,7 @@ def main(words: list[str]) -> int:
         from .shell import main as shell
 
         return shell(words[1:])
-    commands: dict[str, Callable[[list[str]], int]] = {"splits": splits, "picture": picture, "top": top}
+    commands: dict[str, Callable[[list[str]], int]] = {"splits": splits, "picture": picture, "top": top, "serve": serve}
     commands |= dict.fromkeys(OF_THE_PROGRAM, lambda _: handed(words))
     if not words or words[0] not in commands:
         is_help = words[:1] in (["--help"], ["-h"])

@@ -14,9 +14,11 @@ from .questions import Questions
 from .rows import SERIAL, SHIFT, Row, Rows, row_of, row_text
 from .typed import Counts, Flags, OnePayload, Progress, RowNumbers, Self
 
-__all__ = ["SERIAL", "SHIFT", "AnyTable", "Row", "Rows", "parts_for", "row_of", "row_text"]
+__all__ = ["SERIAL", "SHIFT", "AnyTable", "Row", "Rows", "parts_for", "parts_to_load", "row_of", "row_text"]
 
 ROWS_A_PART = 4096
+# a server that is started for the rows of a file has a partition for each so many
+ROWS_A_LOADED_PART = 65_536
 MOST_PARTS = 64
 POLICIES = ("complete", "gradual", "ripple", "auto")
 POLICY = "auto"
@@ -25,6 +27,11 @@ POLICY = "auto"
 def parts_for(rows: int) -> int:
     """The default number of partitions for this many rows."""
     return min(MOST_PARTS, max(rows // ROWS_A_PART, 1))
+
+
+def parts_to_load(rows: int) -> int:
+    """The number of partitions of a server that is started for the rows of a file."""
+    return min(MOST_PARTS, max(-(-rows // ROWS_A_LOADED_PART), 1))
 
 
 class AnyTable(Questions):

@@ -69,10 +69,20 @@ class Channel:
     def __init__(
         self, host: str, port: int, on_wait: Callable[[], None] = lambda: None, timeout: Optional[float] = None
     ):
+        connection = socket.create_connection((host, port), timeout)
+        connection.setsockopt(socket.IPPROTO_TCP, socket.TCP_NODELAY, 1)
+        self._use(connection, f"{host}:{port}", on_wait, timeout)
+
+    def _use(
+        self,
+        connection: socket.socket,
+        peer: str,
+        on_wait: Callable[[], None] = lambda: None,
+        timeout: Optional[float] = None,
+    ) -> None:
+        """Makes a channel of a socket that is connected."""
         self.on_wait, self.timeout = on_wait, timeout
-        self.socket = socket.create_connection((host, port), timeout)
-        self.socket.setsockopt(socket.IPPROTO_TCP, socket.TCP_NODELAY, 1)
-        self.peer = f"{host}:{port}"
+        self.socket, self.peer = connection, peer
         self.socket.setblocking(False)
         self._given = Lines()
         self.unsent, self._poll = memoryview(b""), select.poll()

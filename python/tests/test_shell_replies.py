@@ -12,6 +12,7 @@ from unittest import mock
 
 import ways  # finds the package
 
+from crackd import base
 from crackd.errors import REASONS
 from crackd.shell import child, console, modes, session, texts, typing
 from crackd.shell.child import Interrupts
@@ -314,7 +315,7 @@ class Splits(unittest.TestCase):
         columns = session.Columns(mock.Mock())
         columns.keys.extend(range(rows))
         columns.payloads.extend(bytes(rows))
-        with mock.patch.object(session, "ROWS_A_PART", 10):
+        with mock.patch.object(base, "ROWS_A_LOADED_PART", 10):
             self.assertEqual(told.load(columns, mock.Mock()), rows)
         return first.sent, second.sent, splits
 

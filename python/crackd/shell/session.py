@@ -9,7 +9,7 @@ import re
 import time
 from typing import IO, Any, Callable, Iterable, Iterator, Optional, Sequence, Union
 
-from ..base import MOST_PARTS
+from ..base import parts_to_load
 from ..channel import Channel
 from ..errors import Disconnected
 from ..keys import quantiles
@@ -29,8 +29,6 @@ HTTP = re.compile(rb" *(?:(?:GET|POST|HEAD|PUT|DELETE|OPTIONS|CONNECT|TRACE|PATC
 # a load sends `ROWS_AT_ONCE` rows at a time, and more only while at most `ROWS_UNANSWERED` are unanswered
 ROWS_AT_ONCE = 2000
 ROWS_UNANSWERED = 20_000
-# a load into a new table makes a partition for each so many rows
-ROWS_A_PART = 65_536
 NOTHING_LOADED = "nothing is loaded"
 
 
@@ -142,8 +140,8 @@ class Columns:
         return "".join(["insert %d %d\n" % it for it in numbers]).encode("ascii")
 
     def splits(self) -> list[int]:
-        """Splits that divide the keys evenly: a partition for each `ROWS_A_PART` rows, and `MOST_PARTS` at most."""
-        parts = min(MOST_PARTS, -(-len(self.keys) // ROWS_A_PART))
+        """Splits that divide the keys evenly."""
+        parts = parts_to_load(len(self.keys))
         return quantiles(self.keys, parts) if parts > 1 else []
 
 
