@@ -89,7 +89,9 @@ def text_of_found(found: dict[str, Any]) -> str:
     parts = [f"{name} {found[name]!r}{how_text(found, name)}" for name in ("key", "payload") if found[name] is not None]
     parts.append("a header" if found["header"] else "no header")
     parts.append(f"delimiter {found['delimiter']!r}")
-    return ", ".join(parts + [f"decimal sign {found['decimal']!r}"] * ("decimal" in found))
+    if "decimal" in found:
+        parts.append(f"decimal sign {found['decimal']!r}")
+    return ", ".join(parts)
 
 
 def how_text(found: dict[str, Any], name: str) -> str:

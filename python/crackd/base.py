@@ -41,7 +41,14 @@ class AnyTable(Questions):
     end raises ValueError. Each row has a number, which it keeps until it is deleted and which is never reused. Any
     thread may call any method; a shard of a table answers one call at a time. Close a table, or use it in a `with`
     statement.
+
+    Attributes
+    ----------
+    skipped : int
+        How many rows with a gap were left out by the call that made the table, or by the last `load_csv` into it.
     """
+
+    skipped = 0
 
     def insert(self, key: Any, payload: Any) -> int:
         """Inserts a row. Returns its number."""

@@ -7,7 +7,7 @@ import csv
 import itertools
 from typing import Any, Iterator, Optional, Sequence
 
-from .arrays import np, whole
+from .arrays import np, shown, whole
 from .asked import Place
 from .fields import Column, is_gap
 from .pandascsv import columns_of_pandas
@@ -135,7 +135,7 @@ def place_of(path: str, place: Place, names: list[str]) -> int:
     """The number of a column, which is given by its name or number."""
     if isinstance(place, str):
         if place not in names:
-            said = f"there is no column {place!r}; the header has {', '.join(names) or 'none'}"
+            said = f"there is no column {place!r}; the header has {', '.join(map(shown, names)) or 'none'}"
             raise CsvError(path, 1, 1, "", said)
         return names.index(place)
     if whole(place, "a column") < 0:

@@ -96,17 +96,23 @@ class Column:
 
     def read_all(self, fields: list[str]) -> Sequence[Any]:
         """Reads many fields at once. Raises ValueError if it can't; `reader` may still be able to read each field."""
+        if self.format == YMD:
+            return times_of(fields, self.unit, self.is_zoned)
         if self.format is not None:
-            known = times_of(fields, self.unit, self.is_zoned) if self.format == YMD else None
-            return dates_of_numpy(fields, self.format) if known is None else known
+            return dates_of_numpy(fields, self.format)
+        is_plain = self.sign == "." and not self.is_grouped
+        if is_plain and self.decimals and not self.is_scientific:
+            found = decimals_of_numpy(fields, self.decimals, self.is_strict)
+            if found is not None and self.least <= int(found.min()):
+                return found
         if self.is_strict and has_leading_zero(fields):
             raise ValueError("leading zeros")
-        if self.sign != "." or self.is_grouped:
+        if not is_plain:
             fields = [ungrouped(it, self.sign) for it in fields]
         if self.is_float:
             return list(map(self._float_of, fields))
         if self.decimals or self.is_scientific:
-            return self._decimals(fields)
+            return self._plain_decimals(fields) or list(map(self._decimal_of, fields))
         text = "".join(fields)
         if not (text.isascii() and text.replace("-", "").replace("+", "").isdigit()):
             raise ValueError("more than digits and signs")
@@ -115,17 +121,9 @@ class Column:
             raise ValueError("out of bounds")
         return found
 
-    def _decimals(self, fields: list[str]) -> Sequence[Any]:
-        """Reads decimals with a point."""
-        if not self.is_scientific and 0 < self.decimals < MOST_DIGITS:
-            found = decimals_of_numpy(fields, self.decimals)
-            if found is not None and self.least <= int(found.min()):
-                return found
-        return self._plain_decimals(fields) or list(map(self._decimal_of, fields))
-
     def _plain_decimals(self, fields: list[str]) -> Optional[list[int]]:
         """Reads decimals that all have exactly `decimals` decimal places and fit into 64 bits. None if others occur."""
-        if not 0 < self.decimals < MOST_DIGITS:
+        if self.is_scientific or not 0 < self.decimals < MOST_DIGITS:
             return None
         text = "\n".join(fields)
         form = rf"[+-]?[0-9]{{1,{MOST_DIGITS - self.decimals}}}\.[0-9]{{{self.decimals}}}"
@@ -207,19 +205,20 @@ WIDE = decimal.Context(prec=100)
 
 def has_leading_zero(fields: list[str]) -> bool:
     """Whether a field of digits has a leading zero."""
-    text = "\n" + "\n\n".join(fields) + "\n"
+    text = ("\n" + "\n\n".join(fields) + "\n").replace("\n-", "\n").replace("\n+", "\n")
     is_plain = text.count("\n0") == text.count("\n0\n") + text.count("\n0.")
-    if is_plain and not any(it in text for it in ("-0", "+0", " ", "\t")):
+    if is_plain and " " not in text and "\t" not in text:
         return False
     return any(map(LEADING_ZERO.match, fields))
 
 
-def decimals_of_numpy(fields: list[str], decimals: int) -> Any:
+def decimals_of_numpy(fields: list[str], decimals: int, is_strict: bool) -> Any:
     """Reads decimals with a point and up to `decimals` decimal places, times 10**`decimals`, by numpy.
 
-    None if a field has another form, more decimal places, or digits that may not fit into 64 bits.
+    None if a field has another form, more decimal places, digits that may not fit into 64 bits, or with `is_strict` a
+    leading zero.
     """
-    if np is None or not fields:
+    if np is None or not fields or decimals > MOST_DIGITS:
         return None
     texts = np.array(fields)
     width = texts.dtype.itemsize // 4
@@ -245,8 +244,18 @@ def decimals_of_numpy(fields: list[str], decimals: int) -> Any:
         return None
     if int((digits - places).max()) + decimals > MOST_DIGITS:
         return None
+    if is_strict and are_padded(rows, signs):
+        return None
     found *= np.array([10**it for it in range(decimals + 1)])[decimals - places]
     return np.where(rows[0] == ord("-"), -found, found)
+
+
+def are_padded(rows: Any, signs: Any) -> bool:
+    """Whether a number has a leading zero. `rows` has the characters at each place, and `signs` says who has a sign."""
+    nothing = np.zeros_like(rows[0])
+    one, two, three = [*rows[:3], nothing, nothing][:3]
+    first, second = np.where(signs, two, one), np.where(signs, three, two)
+    return bool(((first == ord("0")) & (second - np.uint8(ord("0")) <= 9)).any())
 
 
 def dates_of_numpy(fields: list[str], form: str) -> Sequence[Any]:

@@ -116,6 +116,8 @@ class Finder:
 
     def by_sample(self) -> Optional[Found]:
         """How the file may be read, as the sample says, or None if it needs a survey."""
+        if not self.sample and not self.is_whole:
+            return None
         header = self.sample[0].fields if self.header and self.sample else []
         columns = columns_of(self.sample[self.header :], header)
         choice = self._choice(columns)
@@ -130,11 +132,15 @@ class Finder:
         return self._found(columns, choice)
 
     def _surveyed(self) -> Columns:
-        """What occurs in all records, up to one that isn't CSV."""
+        """What occurs in all records, up to one that isn't CSV. Raises `CsvError` if that is the first one."""
+        errors: list[csv.Error] = []
         with self.source.text() as text:
-            records = records_of(text, self.delimiter)
+            records = records_of(text, self.delimiter, errors)
             header = next(records, Record([], 1)) if self.header else Record([], 1)
-            return columns_of(records, header.fields, header.line)
+            found = columns_of(records, header.fields, header.line)
+        if errors and not found.all:
+            raise CsvError(self.source.path, 1, 1, "", str(errors[0]))
+        return found
 
     def _choice(self, columns: Columns) -> Choice:
         """The columns that are given, or else the first two, of which the only one with dates has the keys."""
@@ -246,14 +252,14 @@ def sample_of(source: Source) -> tuple[str, bool]:
         found = text.read(SAMPLE)
     if len(found) < SAMPLE:
         return found, True
-    return found[: max(found.rfind("\n"), found.rfind("\r")) + 1] or found, False
+    return found[: max(found.rfind("\n"), found.rfind("\r")) + 1], False
 
 
-def records_of(text: Any, delimiter: str) -> Iterator[Record]:
-    """The records of a text or a file that aren't blank, up to one that isn't CSV."""
+def records_of(text: Any, delimiter: str, errors: Optional[list[csv.Error]] = None) -> Iterator[Record]:
+    """The records of a text or a file that aren't blank, up to one that isn't CSV, whose error is added to `errors`."""
     lines: list[int] = []
     reader = csv.reader(io.StringIO(text, newline="") if isinstance(text, str) else text, delimiter=delimiter)
-    for record in not_blank(reader, lines, []):
+    for record in not_blank(reader, lines, [] if errors is None else errors):
         yield Record(record, lines.pop())
 
 

@@ -8,7 +8,9 @@ from .arrays import TOP, np, shown, whole
 from .asked import FOUND, Asked, Auto, Found, Place, Role
 from .base import AnyTable
 from .csvfile import CsvFile, read_columns
-from .fields import BETWEEN
+from .decimals import MOST_DECIMALS as MOST_OF_A_TABLE
+from .decimals import Scaled
+from .fields import BETWEEN, Column
 from .finding import Finder
 from .gaps import is_skipping
 from .source import CsvError, Source
@@ -60,6 +62,7 @@ def load_csv(
         than 9 decimal places.
     key_decimals, payload_decimals : int, optional
         The number of decimal places: by default the most that occur, up to 9. With 2 decimal places, 12.345 is refused.
+        With more than 9, up to 40, the keys or payloads of the table are integers: the numbers times a power of 10.
     key_format, payload_format : str, optional
         Formats of `datetime.strptime`, for dates in another order than year, month, day, or "ymd" for this order. Such
         keys are datetime64[us] if numpy is installed, or datetime64[ns] if there are more than 6 digits after a second,
@@ -102,6 +105,7 @@ def load_csv(
     if into is None:
         into = new_table(keys, payloads, found, progress, options)
     else:
+        keys, payloads = known(keys, found.key_column, into._keys), known(payloads, found.payload_column, into._payloads)
         into.insert_rows(keys, payloads, progress=progress)
         into.settle()
     into.skipped = skipped
@@ -124,9 +128,9 @@ def wanted_by(table: AnyTable, role: Role) -> Role:
     if (role.kind, role.decimals, role.format) != (None, None, None):
         return role
     if role.name == "payload":
-        return Role(role.name, role.place, "i", 0, is_wanted=True)
+        return Role(role.name, role.place, "i", table.payload_decimals, is_wanted=True)
     kind = table._keys.kind
-    return Role(role.name, role.place, kind, 0 if kind in "ui" else None, is_wanted=True)
+    return Role(role.name, role.place, kind, table.key_decimals if kind in "ui" else None, is_wanted=True)
 
 
 def read(source: Source, asked: Asked) -> tuple[Any, Any, Found, int]:
@@ -175,6 +179,19 @@ def with_encoding(source: Source, asked: Asked, error: CsvError) -> CsvError:
 def new_table(keys: Any, payloads: Any, found: Found, progress: Progress, options: dict[str, Any]) -> Table:
     """A table of the rows of a file."""
     kind = keys.dtype if np is not None else {"d": "float64", "Q": "uint64", "q": "int64"}[keys.typecode]
+    keys, payloads = scaled(keys, found.key_column), scaled(payloads, found.payload_column)
     table = Table.from_arrays(keys, payloads, key_type=kind, progress=progress, **options)
     table.found = found.arguments()
     return table
+
+
+def scaled(numbers: Any, column: Column) -> Any:
+    """Integers as the decimals that they stand for. They stay integers if no table has so many decimal places."""
+    if column.is_float or not 0 < column.decimals <= MOST_OF_A_TABLE:
+        return numbers
+    return Scaled(numbers if np is None else np.asarray(numbers), column.decimals)
+
+
+def known(numbers: Any, column: Column, kind: Any) -> Any:
+    """Integers as the decimals that they stand for, if the type `kind` of a table's keys or payloads has decimals."""
+    return scaled(numbers, column) if kind.decimals else numbers

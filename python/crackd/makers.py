@@ -5,6 +5,7 @@ from __future__ import annotations
 import abc
 from typing import Any, Iterator, Optional, TypeVar, overload
 
+from .asked import text_of_found
 from .base import AnyTable
 from .decimals import keys_with_decimals, payloads_with_decimals
 from .frames import columns_of_arrow, columns_of_pandas
@@ -18,6 +19,8 @@ class TableHere(AnyTable):
     """A table in this process."""
 
     _is_here = True
+    # the arguments of `load_csv` that read the file in the same way
+    found: Optional[dict[str, Any]] = None
     shards: int
     partitions: int
 
@@ -146,6 +149,8 @@ class TableHere(AnyTable):
         """About how many bytes of memory the rows take."""
 
     def _facts(self) -> Iterator[tuple[str, str]]:
+        if self.found is not None:
+            yield "of", text_of_found(self.found)
         if self.shards > 1:
             yield "shards", str(self.shards)
         yield "partitions", str(self.partitions)

@@ -99,11 +99,17 @@ def has_leading_zeros(text: str, delimiter: str) -> bool:
     """Whether a field in a text is an integer with a leading zero, in any column. The end of the text ends no field."""
     letters = np.frombuffer(text.encode("ascii", "replace"), np.uint8)
     ends = [ord(it) for it in delimiter + '\r\n" \t']
-    is_begin = letters[:-2] < ord(".")
-    if ord(delimiter) >= ord("."):
-        is_begin |= letters[:-2] == ord(delimiter)
-    is_begin &= letters[1:-1] == ord("0")
-    at = np.flatnonzero(is_begin) + 1
+    # the characters before a leading zero, the zero, and the digit after it
+    second, first, zero, digit = (letters[at : len(letters) - 3 + at] for at in range(4))
+    is_begin = zero == ord("0")
+    is_begin &= (first < ord(".")) if ord(delimiter) < ord(".") else (first < ord(".")) | (first == ord(delimiter))
+    if np.count_nonzero(is_begin) > len(letters) >> 6:
+        is_begin &= are_digits(digit)
+        # a sign or a blank after a digit, as in dates, begins no integer
+        between = [ord(it) for it in "- " if it != delimiter]
+        for it in between:
+            is_begin &= ~(are_digits(second) & (first == it))
+    at = np.flatnonzero(is_begin) + 2
     at = at[are_digits(letters[at + 1])]
     if not len(at):
         return False
