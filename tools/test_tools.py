@@ -330,7 +330,16 @@ start:
   call void @llvm.memset.p0.i64(ptr %r0, i8 -86, i64 1, i1 false)
   call void @llvm.memset.p0.i64(ptr %a0, i8 -86, i64 1, i1 false)
   call void @"rattle-llvm-checks::Value"(i8 0)
-  ret i64 3
+  br i1 true, label %trap.1, label %trap.2
+
+trap.1:                                           ; preds = %start
+  call void @llvm.trap()
+  call void @"rattle-llvm-checks::Unreachable"(i8 0)
+  unreachable
+
+trap.2:                                           ; preds = %start
+  call void @llvm.trap()
+  unreachable
 }
 
 define internal void @"rattle-llvm-checks::Value"(i8 %a0) #7 {
@@ -346,6 +355,7 @@ false:                                            ; preds = %start
   unreachable
 }
 
+attributes #0 = { nounwind sanitize_address "frame-pointer"="all" "target-cpu"="x86-64" }
 attributes #7 = { sanitize_address "frame-pointer"="all" }
 """
 
@@ -361,8 +371,9 @@ class Builds(unittest.TestCase):
         self.assertIn("!llvm.module.flags = !{!100000001}\n", unproved.finished(MODULE, False, True))
         trusted = unproved.finished(MODULE, True, False)
         self.assertNotIn("@llvm.trap()", trusted)
-        assumed = '@"rattle-llvm-checks::Value"(i8 %a0) alwaysinline #7 {\nstart:\n  %r0 = icmp ne i8 %a0, 0\n'
-        self.assertIn(f"{assumed}  call void @llvm.assume(i1 %r0)\n  ret void\n}}\n", trusted)
+        self.assertIn('@"rattle-llvm-checks::Value"(i8 %a0) alwaysinline #7 {\nstart:\n  ret void\n}\n', trusted)
+        self.assertEqual(trusted.count("unreachable"), 2)
+        self.assertIn('"target-cpu"="x86-64-v2"', trusted)
         # only a new variable's fill goes
         self.assertEqual(re.findall(r"\(ptr (\S+), i8 -86", checked), ["%r0", "%a0"])
         self.assertEqual(re.findall(r"\(ptr (\S+), i8 -86", trusted), ["%a0"])
@@ -374,6 +385,8 @@ class Builds(unittest.TestCase):
             ("rattle-llvm-checks", "rattle-checks"),
             ("icmp ne", "icmp eq"),
             ("i8 -86", "i8 0"),
+            ("  unreachable", "  ret void"),
+            ("x86-64", "arm"),
             ("attributes", "!llvm.module.flags = !{!0}\nattributes"),
         ]:
             with self.subTest(old), self.assertRaisesRegex(SystemExit, f"toolchain.*{toolchain}"):
