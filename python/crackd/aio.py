@@ -17,6 +17,7 @@ from .forks import OF_THE_PARENT
 from .keys import Keys, keys_for
 from .layout import Layout
 from .primitives import Answer, Steps
+from .questions import not_into_itself
 from .remote import RemoteTable
 from .rows import CHUNK, Rebalanced, Row, Rows, checked_size
 from .typed import Counts, Flags, Mean, OnePayload, Progress, RowNumbers, Self, Sums
@@ -356,6 +357,7 @@ class AsyncTable:
         return await _awaited(self._table.save(path))
 
     async def rebalanced(self, into: Any = None, **options: Any) -> Rebalanced:
+        not_into_itself(self, into)
         return await _awaited(self._table.rebalanced(into, **options))
 
     async def close(self) -> None:
@@ -375,6 +377,9 @@ class AsyncTable:
 
     def __repr__(self) -> str:
         return repr(self._table).replace("Shared", "AsyncTable", 1)
+
+    def __reduce_ex__(self, _: Any) -> Any:
+        return self._table.__reduce_ex__(_)
 
     async def __aenter__(self) -> Self:
         return self

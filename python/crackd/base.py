@@ -194,7 +194,7 @@ class AnyTable(Questions):
         return html_of(self)
 
     def __reduce_ex__(self, _: Any) -> Any:
-        raise TypeError("a table can't be copied or pickled")
+        raise TypeError("a table can't be copied or pickled; `rebalanced` makes another with the same rows")
 
     def __len__(self) -> int:
         try:

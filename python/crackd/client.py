@@ -27,6 +27,9 @@ class Client(RemoteTable):
     1 70
     """
 
+    # the server that this table keeps, if it was made by the server's `connect`
+    _server: Any = None
+
     def __init__(self, channel: Channel, keys: Keys, policy: str, payloads: PayloadType = INTEGERS):
         self._channel: Optional[Channel] = channel
         self._payloads = payloads

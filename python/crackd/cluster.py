@@ -40,6 +40,8 @@ from distributed import Actor, Client, Future, wait
 
 __all__ = ["BadSave", "ShardFailed", "ShardLost", "Table"]
 
+# what a client of Dask says of itself from its end on
+ENDED = ("closing", "closed")
 # the greatest number of rows that one task loads from a file
 ROWS_A_TASK = 1_000_000
 
@@ -111,13 +113,19 @@ class Table(Sharded):
         policy: str = POLICY,
         history: int = HISTORY,
         cells: int = MOST_CELLS,
+        **others: Any,
     ) -> None:
         """Starts the shards on the workers in turn. Splits are `cuts`, or else quantiles of the sorted `numbers`."""
+        if "partitions" in others:
+            raise TypeError("a cluster's table takes shards=N; the partitions in each shard follow from `rows`")
+        if others:
+            raise TypeError(f"a cluster's table has no options {', '.join(others)}")
         if policy not in POLICIES:
             raise ValueError(f"policy must be one of {', '.join(POLICIES)}, not {policy}")
         self._client, self._keys, self._lock, self._policy = client, kind, threading.Lock(), policy
         self._payloads = PayloadType(payload_decimals)
         self._lost: dict[int, ShardLost] = {}
+        check_client(client)
         workers = sorted(client.nthreads())
         if not workers:
             raise ValueError("the cluster has no worker")
@@ -173,6 +181,8 @@ class Table(Sharded):
         with self._lock:
             if not self._futures:
                 raise Closed("the table is closed")
+            if self._client.status in ENDED:
+                raise Closed("the client of the cluster is closed, and the table with it")
 
     def _lose(self, shard: int, why: str) -> ShardLost:
         """Notes that a shard is lost, for the reason `why`. Returns the error."""
@@ -250,7 +260,9 @@ class Table(Sharded):
     def close(self) -> None:
         """Frees all memory of the shards. A second call does nothing."""
         if self._futures:
-            self._ask(self._every(), "close")
+            # the shards end with their client
+            if self._client.status not in ENDED:
+                self._ask(self._every(), "close")
             self._futures, self._actors = [], []
 
     # Files
@@ -286,6 +298,7 @@ class Table(Sharded):
         run meanwhile.
         """
         room = folder_of(folder)
+        check_client(client)
         with reading(room) as manifest:
             paths = [str(room / it) for it in manifest["files"]]
             return cls._restored(client, manifest, paths, shards, options)
@@ -389,6 +402,7 @@ class Table(Sharded):
         is_frame = hasattr(type(frame), "columns")
         if not (hasattr(type(frame), "to_delayed") and (is_frame or hasattr(type(frame), "dtype"))):
             raise TypeError(f"from_dask takes a Dask dataframe or array, not one of type {type(frame).__name__}")
+        check_client(client)
         kind = Keys.of_dtype(frame[key].dtype if is_frame else frame.dtype)
         if key_decimals is not None:
             kind = (Keys("i") if kind.kind == "f" else kind).with_decimals(key_decimals)
@@ -425,6 +439,14 @@ def evened(samples: Sequence[tuple[int, Any]]) -> Iterator[Any]:
     most = max((each for each, _ in drawn), default=1)
     for each, keys in drawn:
         yield keys[:: round(most / each)]
+
+
+def check_client(client: Any) -> None:
+    """Raises TypeError if this is no client of a cluster, and `Closed` if it is closed."""
+    if not isinstance(client, Client):
+        raise TypeError(f"the first argument must be a distributed.Client, not of type {type(client).__name__}")
+    if client.status in ENDED:
+        raise Closed("the client of the cluster is closed")
 
 
 def ends_text(keys: Keys, low: int, high: int) -> str:

@@ -31,6 +31,19 @@ class Error(Exception):
 
     answers: Any = None
 
+    def __reduce__(self) -> Any:
+        # a copy gets the text and the attributes of this error, whatever arguments its class is made with
+        return _copied, (type(self), self.args, vars(self))
+
+
+def _copied(kind: type[Error], words: tuple[Any, ...], attributes: dict[str, Any]) -> Error:
+    """An error with this text and these attributes."""
+    # only these two have all fields of an error in C, whatever its other base classes are
+    error = (OSError if issubclass(kind, OSError) else Exception).__new__(kind, *words)
+    error.args = words
+    vars(error).update(attributes)
+    return error
+
 
 class Closed(Error, ValueError):
     """The table is closed."""
@@ -75,9 +88,6 @@ class Refused(Error):
         super().__init__(f"refused {code}: {REASONS.get(code, 'unknown')}{after}")
         self.code, self.done, self.later = code, done, later
 
-    def __reduce__(self) -> Any:
-        return type(self), (self.code, self.done, self.later), {"answers": self.answers}
-
 
 class ShardLost(Error):
     """A shard of a cluster's table is lost with its rows, because its worker is gone.
@@ -99,9 +109,6 @@ class ShardLost(Error):
     def __init__(self, shard: int, low: Any, high: Any, keys: str, why: str):
         super().__init__(f"shard {shard} ({keys}) is lost: {why}")
         self.shard, self.low, self.high, self.keys, self.why = shard, low, high, keys, why
-
-    def __reduce__(self) -> Any:
-        return type(self), (self.shard, self.low, self.high, self.keys, self.why), {"answers": self.answers}
 
     def copied(self, answers: Any = None) -> "ShardLost":
         """Returns a copy with these answers: each call raises an error of its own."""

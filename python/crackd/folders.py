@@ -8,6 +8,7 @@ or that is being read; locks of processes that were killed are gone.
 from __future__ import annotations
 
 import contextlib
+import errno
 import fcntl
 import json
 import os
@@ -153,6 +154,11 @@ def _remove(folder: pathlib.Path, mark: str, kept: set[str]) -> None:
 @contextlib.contextmanager
 def reading(folder: pathlib.Path) -> Iterator[dict[str, Any]]:
     """A context of a load. Yields the manifest, whose parts aren't removed before the end of the block."""
+    if not folder.exists():
+        raise FileNotFoundError(errno.ENOENT, "there is no such folder", str(folder))
+    if not (folder / MANIFEST).exists():
+        said = "the folder of a save has this file, and it isn't there"
+        raise FileNotFoundError(errno.ENOENT, said, str(folder / MANIFEST))
     manifest, before = read_manifest(folder / MANIFEST), None
     # a later save may have removed them since the manifest was read
     while (first := _held(folder / manifest["files"][0])) is None and manifest != before:

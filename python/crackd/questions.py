@@ -246,6 +246,7 @@ class Questions(Primitives):
         Rebalanced
             The new table, and the old and new numbers of the rows. This table stays open and unchanged.
         """
+        not_into_itself(self, into)
         if into is not None and options:
             raise TypeError(f"options are for a new table: {', '.join(options)}")
         types = {"key_type": self._keys, "payload_decimals": self._payloads.decimals}
@@ -301,6 +302,12 @@ class Questions(Primitives):
     def _written_steps(self, file: Writing) -> Steps[None]:
         for part in (yield from self._parts_steps(0, TOP)):
             file.add(*(yield self._select(*part))[1:])
+
+
+def not_into_itself(table: Any, into: Any) -> None:
+    """Raises ValueError if rows would be copied to the table that they are in, which would have each of them twice."""
+    if into is table:
+        raise ValueError("a table can't be rebalanced into itself; without `into` there is a new one")
 
 
 def neighbours(edges: Any) -> tuple[Any, Any]:

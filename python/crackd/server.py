@@ -158,8 +158,10 @@ class Server:
         A server serves up to 10,000 connections at a time.
         """
         types: dict[str, Any] = {"key_type": self._keys, "payload_decimals": self._payloads.decimals}
-        given = {**types, "policy": self._policy, **options}
-        return connect("127.0.0.1", self.port, **given)
+        table = connect("127.0.0.1", self.port, **{**types, "policy": self._policy, **options})
+        # a server that nobody refers to any more ends, so `serve().connect()` would leave a table without one
+        table._server = self
+        return table
 
     def close(self) -> None:
         """Ends the server and its table. A second call does nothing."""
@@ -174,6 +176,9 @@ class Server:
             self._process.kill()
             self._process.communicate()
         self._errors.close()
+
+    def __reduce_ex__(self, _: Any) -> Any:
+        raise TypeError("a server can't be copied or pickled; other processes connect to its port")
 
     def __enter__(self) -> "Server":
         return self

@@ -49,9 +49,6 @@ class LoadFailed(Error):
         super().__init__(f"shard {shard} can't be reached: {why}")
         self.shard, self.why = shard, why
 
-    def __reduce__(self) -> Any:
-        return type(self), (self.shard, self.why)
-
 
 class Shard:
     """A shard: an actor on its worker.

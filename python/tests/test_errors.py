@@ -6,8 +6,10 @@ import pickle
 import unittest
 import weakref
 
+from clusters import cluster
 from ways import InProcess, InShards, OverTcp, crackd, np, wants_library, wants_numpy, wants_program, wants_shards
 
+import crackd.shell.texts
 from crackd import errors
 
 # the error of each refusal by its code, and the built-in error that it also is
@@ -23,6 +25,13 @@ KINDS = {
     14: (crackd.BadLimit, ValueError),
 }
 OTHERS = (1, 2, 7, 13, 17, 99, 102, 103, 104)
+
+
+def all_below(kind):
+    """All classes that derive from a class."""
+    for it in kind.__subclasses__():
+        yield it
+        yield from all_below(it)
 
 
 class Kinds(unittest.TestCase):
@@ -64,13 +73,26 @@ class Kinds(unittest.TestCase):
             self.assertTrue(str(errors.refused(8, done, later)).endswith(f"ran out{said}"))
 
     def test_copies(self):
+        """Of each error of the package, with all that a call has added to it."""
         made = [errors.refused(code, 3, 4) for code in (*KINDS, *OTHERS)]
+        made.append(crackd.CsvError("rows.csv", 3, 2, "price", "'x' isn't an integer"))
+        made += [it("words") for it in all_below(crackd.Error) if not any(isinstance(error, it) for error in made)
+                 and it.__name__ not in ("ShardLost", "LoadFailed")]
+        if cluster is not None:
+            made.append(crackd.shard.LoadFailed(3, "it is gone"))
         made.append(errors.ShardLost(3, 5, None, "keys from 5", "it is gone"))
+        self.assertGreaterEqual(len(made), 28)
+        self.assertEqual(set(all_below(crackd.Error)) - {type(it) for it in made}, set())
         for error in made:
-            error.answers = [7, 8]
-            for found in (pickle.loads(pickle.dumps(error)), copy.copy(error)):
+            error.answers, error.row = [7, 8], crackd.Row(5, 7)
+            ways_to_copy = [copy.copy, copy.deepcopy]
+            ways_to_copy += [lambda it, at=at: pickle.loads(pickle.dumps(it, at)) for at in (0, 2, pickle.HIGHEST_PROTOCOL)]
+            for copied in ways_to_copy:
+                found = copied(error)
                 self.assertIs(type(found), type(error))
-                self.assertEqual((str(found), vars(found)), (str(error), vars(error)))
+                self.assertEqual((str(found), vars(found), found.args), (str(error), vars(error), error.args))
+                with self.assertRaises(type(error)):
+                    raise found
         found = made[-1].copied([9])
         self.assertEqual((str(found), found.answers, made[-1].answers), (str(made[-1]), [9], [7, 8]))
         self.assertEqual((found.shard, found.low, found.high, found.copied().answers), (3, 5, None, None))
