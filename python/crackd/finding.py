@@ -153,6 +153,9 @@ class Finder:
         if key is FOUND:
             free = [it for it in (0, 1) if it != payload]
             dates = [it for it in free if columns.at(it).is_dates]
+            if asked.payload.format is not None and asked.key.format is None and len(free) == 2:
+                # the dates are the payloads
+                dates = [it for it in free if it not in dates]
             key = dates[0] if len(dates) == 1 else free[0]
         if payload is FOUND:
             payload = 0 if key == 1 else 1

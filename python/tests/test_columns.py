@@ -19,6 +19,7 @@ from ways import crackd, np, wants_library, wants_numpy
 from crackd import __main__ as program
 from crackd import arrow, described, errors, frames, pandascsv, saved, server
 from crackd.keys import Keys
+from crackd.source import Source
 
 # a field that is too long for the module csv
 LONG = "9" * 131_073
@@ -41,10 +42,11 @@ class Fields(WithFiles, unittest.TestCase):
                     number = -5 if sign == "-" else 5
                     text = f"{sign}{'0' * zeros}5,1\n{other},2\n"
                     with self.subTest(zeros=zeros, sign=sign, other=other):
-                        self.assertEqual(self.rows(text), [(1, number), (2, 3)])
-        self.assertEqual(self.rows(f"{'0' * 50},1\n 3,2\n"), [(1, 0), (2, 3)])
+                        self.assertEqual(self.rows(text, key_type="int64"), [(1, number), (2, 3)])
+        self.assertEqual(self.rows(f"{'0' * 50},1\n 3,2\n", key_decimals=0), [(1, 0), (2, 3)])
         for field in ("9" * 41, "-" + "9" * 41, "0" * 60 + "9" * 41, "1" + "0" * 40, "-1" + "0" * 40):
-            self.assertIn("isn't -9223372036854775808 to 9223372036854775807", self.wrong(1, 1, f"{field},1\n"))
+            said = self.wrong(1, 1, f"{field},1\n", key_type=int)
+            self.assertIn("isn't -9223372036854775808 to 9223372036854775807", said)
 
     def test_digits_after_the_last_place_count(self):
         for decimals in (1, 2, 10):
@@ -68,7 +70,7 @@ class Fields(WithFiles, unittest.TestCase):
             for wrong in (-1, 41):
                 with self.assertRaisesRegex(ValueError, f"{name} must be 0 to 40, not {wrong}"):
                     self.rows("1,1\n", **{name: wrong})
-            for wrong in (1.5, "1", None):
+            for wrong in (1.5, "1", True):
                 with self.assertRaises(TypeError):
                     self.rows("1,1\n", **{name: wrong})
         self.assertEqual(self.rows("1,1\n", key_decimals=0, payload_decimals=0), [(1, 1)])
@@ -82,7 +84,7 @@ class Fields(WithFiles, unittest.TestCase):
             with self.assertRaisesRegex(ValueError, "key_decimals and key_format are for integers and dates"):
                 self.rows("2000,1\n", key_type="float64", **options)
         self.assertEqual(self.rows("1.5,2.5\n", key_type="float64", payload_decimals=1), [(25, 1.5)])
-        for wrong in ("int32", "datetime64[us]", None, str, "float32"):
+        for wrong in ("int32", "datetime64[us]", bool, str, "float32"):
             with self.assertRaises(ValueError):
                 self.rows("1,1\n", key_type=wrong)
 
@@ -109,7 +111,7 @@ class Fields(WithFiles, unittest.TestCase):
         self.assertIn("no column 'b'; the header has none", self.wrong(1, 1, "", "b", "b"))
         self.assertIn("no column 'b'; the header has a, c", self.wrong(1, 1, "a,c\n1,2\n", "b", "a"))
         path = self.path("1,2\n")
-        for wrong in ("", ";;", '"', "\r", "\n", None, 5, b","):
+        for wrong in ("", ";;", '"', "\r", "\n", True, 5, b","):
             with self.assertRaisesRegex(ValueError, "a delimiter must be one character"):
                 crackd.load_csv(path, delimiter=wrong)
 
@@ -136,7 +138,7 @@ class Worth(WithFiles, unittest.TestCase):
             with mock.patch.dict("sys.modules"), mock.patch.object(pandascsv, "LEAST_BYTES", least):
                 pandascsv.sys.modules.pop("pandas", None)
                 with mock.patch("importlib.util.find_spec"), mock.patch("importlib.import_module") as imported:
-                    found = pandascsv.pandas_for(path)
+                    found = pandascsv.pandas_for(Source(path, "utf-8"))
                 self.assertIs(found, imported.return_value if is_worth else None)
                 # if pandas is imported already, any file is worth it
                 pandascsv.sys.modules["pandas"] = mock.sentinel.pandas
@@ -146,7 +148,7 @@ class Worth(WithFiles, unittest.TestCase):
                 pandascsv.sys.modules.pop("pandas", None)
                 with mock.patch("importlib.util.find_spec"):
                     with mock.patch("importlib.import_module", side_effect=fault):
-                        self.assertIsNone(pandascsv.pandas_for(path))
+                        self.assertIsNone(pandascsv.pandas_for(Source(path, "utf-8")))
 
 
 @wants_numpy
@@ -438,7 +440,7 @@ class Command(unittest.TestCase):
                 (b"a,1\n1,2\n3,4\n", ["--key", "1"], (0, "2\n", "")),
                 (b"a,b\n1,2\n3,4\n", ["--key", "\u00b2"], (1, "", "there is no column '\u00b2'; the header has a, b")),
                 (b"a,b\n1,2\n3,4\n", ["--key", "-1"], (1, "", "there is no column '-1'; the header has a, b")),
-                (b"1,2\n\xff,4\n", [], (1, "", "'utf-8' codec can't decode byte 0xff")),
+                (b"1,2\n\xff,4\n", [], (1, "", "rows.csv, line 2: the text isn't UTF-8")),
                 (b"key,payload\n", [], (0, "\n", "")),
                 (b"7,1\n", [], (0, "7\n", "")),
                 (b"7,1\n7,2\n", [], (0, "7\n", "")),

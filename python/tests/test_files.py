@@ -19,6 +19,8 @@ from crackd.csvfile import Column, CsvFile, read_columns
 
 ISO_FORMATS = ["%Y-%m-%d", "%Y-%m-%d %H", "%Y-%m-%dT%H:%M", "%Y-%m-%d %H:%M:%S", "%Y-%m-%dT%H:%M:%S.%f"]
 ISO_FORMATS += ["%Y-%m-%dT%H:%M:%SZ", "%Y-%m-%d %H:%M:%S.%fZ"]
+# the end of the refusal of a gap
+SKIP = "; it needs missing='skip'"
 # the microseconds from 1970 to 2020-01-02 03:04:05
 TIME = 1_577_934_245_000_000
 
@@ -73,10 +75,10 @@ class Files(unittest.TestCase):
             self.wrong("line 3, column 3 (c): '1.5' isn't an integer", "a,b,c\n1,x,10\n2,x,1.5\n", "a", "c").column, 3
         )
         self.wrong("line 1, column 2: the line has only 1 field", "1\n")
-        self.wrong("line 1, column 1: '' isn't an integer", ",1\n")
+        self.wrong(f"line 1, column 1: '' isn't an integer{SKIP}", ",1\n")
         # a record of empty fields isn't blank
-        self.wrong("line 2, column 1: '' isn't an integer", "1,2\n,\n3,4\n")
-        self.wrong("line 4, column 1: '' isn't an integer", '1,2\n\n3,4\n"",""\n\n')
+        self.wrong(f"line 2, column 1: '' isn't an integer{SKIP}", "1,2\n,\n3,4\n")
+        self.wrong(f"line 4, column 1: '' isn't an integer{SKIP}", '1,2\n\n3,4\n"",""\n\n')
         self.wrong("line 1, column 1: there is no column 'z'; the header has a, b", "a,b\n1,2\n", "z")
         self.wrong("line 1, column 1: there is no column 'z'; the header has none", "", "z")
         self.wrong("line 1, column 1: '1_0' isn't an integer", "1_0,1\n")
@@ -94,7 +96,7 @@ class Files(unittest.TestCase):
             "2020-02-30,1\n",
             key_column=Column(format="%Y-%m-%d"),
         )
-        self.wrong("line 1, column 1: NaN can't be a key", "nan,1\n", key_column=Column(is_float=True))
+        self.wrong(f"line 1, column 1: NaN can't be a key{SKIP}", "nan,1\n", key_column=Column(is_float=True))
         self.wrong("line 1, column 1: '" + "9" * 40 + "..' isn't " + f"{-(2**63)} to {2**63 - 1}", "9" * 5000 + ",1\n")
         # a field of several lines: the error names the line at which the record ends
         self.wrong("line 3, column 1: 'x\\ny' isn't an integer", '1,1\n"x\ny",1\n')
@@ -106,15 +108,17 @@ class Files(unittest.TestCase):
         self.assertEqual(self.read("".join(f"{it},1\n" for it in fields), key_column=number)[0], wanted)
         wrong = ["1_000", "1_0.5", "٣", "1.٣", "１", "0x10", "", " ", "1e", "e5", "1.5.2", "--1", "ınf", "1 2"]
         for field in wrong:
-            self.wrong(f"line 2, column 1: {field!r} isn't a number", f"1,1\n{field},1\n", key_column=number)
+            said = f"line 2, column 1: {field!r} isn't a number{SKIP * (not field.strip())}"
+            self.wrong(said, f"1,1\n{field},1\n", key_column=number)
         for field in ("1e400", "-1e999", "1" * 35 + "e300"):
             self.wrong(f"line 1, column 1: {field!r} is beyond all floats", f"{field},1\n", key_column=number)
-        self.wrong("line 1, column 1: NaN can't be a key", "-NaN,1\n", key_column=number)
+        self.wrong(f"line 1, column 1: NaN can't be a key{SKIP}", "-NaN,1\n", key_column=number)
 
     def test_integers_are_written_in_plain_digits(self):
         self.assertEqual(self.read("1,+2\n-3,0004\n 5 ,\t6\n-0,+0\n"), ([1, -3, 5, 0], [2, 4, 6, 0]))
         for field in ("1_0", "٣", "１", "0x10", "", " ", "--1", "+-1", "1-", "-", "1 2", "1e3", "1.0", "\u00b2"):
-            self.wrong(f"line 2, column 2: {field!r} isn't an integer", f"1,1\n2,{field}\n3,1\n")
+            said = f"line 2, column 2: {field!r} isn't an integer{SKIP * (not field.strip())}"
+            self.wrong(said, f"1,1\n2,{field}\n3,1\n")
         for number in (2**63, -(2**63) - 1):
             self.wrong(f"line 2, column 2: '{number}' isn't {-(2**63)} to {2**63 - 1}", f"1,1\n2,{number}\n")
         self.assertEqual(self.read(f"{2**63 - 1},{-(2**63)}\n"), ([2**63 - 1], [-(2**63)]))
@@ -147,6 +151,7 @@ class Files(unittest.TestCase):
         wrong += ["2020/01/02 03:04:05", "-020-01-02 03:04:05", "2020-01-02 03:04:05Z", "+020-01-02 03:04:05"]
         for field in wrong:
             text, said = f"2020-01-02 03:04:05,1\n{field},1\n", f"{field!r} isn't a date of the form {form!r}"
+            said += SKIP * (not field)
             self.wrong(f"line 2, column 1: {said}", text, key_column=whole)
         for field in ("2020-01-02 03:04:05.", "2020-01-02 03:04:05.0000001", "2020-01-02 03:04:05.+1"):
             said = f"line 1, column 1: {field!r} isn't a date of the form '{form}.%f'"
@@ -175,7 +180,7 @@ class Files(unittest.TestCase):
         for name in ("key_decimals", "payload_decimals"):
             for value in (-1, 41):
                 self.assertRaisesRegex(ValueError, f"{name} must be 0 to", crackd.load_csv, "missing", **{name: value})
-            for value in (1.5, "2", True, None):
+            for value in (1.5, "2", True):
                 self.assertRaisesRegex(TypeError, f"{name} must be an", crackd.load_csv, "missing", **{name: value})
         for options in ({"key_decimals": 2}, {"key_format": "%Y"}):
             self.assertRaisesRegex(ValueError, "not for floats", crackd.load_csv, "missing", key_type=float, **options)

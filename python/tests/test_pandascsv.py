@@ -15,6 +15,7 @@ from clusters import wants_pandas
 from ways import crackd, np, wants_library
 
 from crackd import csvfile, pandascsv
+from crackd.source import Source
 
 FIELDS = ["0", "-0", "+7", " 5", "5 ", "\t5", "5\v", "007", str(2**63 - 1), str(2**63), str(-(2**63))]
 FIELDS += [str(-(2**63) - 1), str(2**64 - 1), str(2**64), "9" * 400, "1.0", "1.", ".5", "-.5", "1e3", "1E-3", "1e"]
@@ -163,11 +164,12 @@ class Alike(unittest.TestCase):
 
     def test_small_files_do_not_import_pandas(self):
         self.path.write_text("1,2\n", encoding="ascii")
+        source = Source(self.path, "utf-8")
         with mock.patch.dict("sys.modules"):
             pandascsv.sys.modules.pop("pandas", None)
-            self.assertIsNone(pandascsv.pandas_for(self.path))
+            self.assertIsNone(pandascsv.pandas_for(source))
             with mock.patch.object(pandascsv, "LEAST_BYTES", 1), mock.patch("importlib.import_module") as imported:
-                self.assertIs(pandascsv.pandas_for(self.path), imported.return_value)
+                self.assertIs(pandascsv.pandas_for(source), imported.return_value)
 
     def test_the_types_of_what_is_read(self):
         self.path.write_text("2020-01-01,5\n2020-01-02,6\n", encoding="ascii")
