@@ -254,6 +254,11 @@ class AsyncTable:
         return self._table.payload_decimals
 
     @property
+    def zone(self) -> Optional[str]:
+        """The time zone of the keys, or None."""
+        return self._table.zone
+
+    @property
     def policy(self) -> str:
         """How queries merge pending rows."""
         return self._table.policy
@@ -408,6 +413,7 @@ async def connect_async(
     key_type: Any = "uint64",
     key_decimals: Optional[int] = None,
     payload_decimals: Optional[int] = None,
+    zone: Any = None,
     policy: str = POLICY,
     timeout: Optional[float] = None,
 ) -> AsyncTable:
@@ -417,7 +423,7 @@ async def connect_async(
     """
     if policy not in POLICIES:
         raise ValueError(f"policy must be one of {', '.join(POLICIES)}, not {policy}")
-    kind, payloads = keys_for((), key_type, key_decimals)[0], PayloadType(payload_decimals)
+    kind, payloads = keys_for((), key_type, key_decimals, zone)[0], PayloadType(payload_decimals)
     timeout = checked_timeout(timeout)
     try:
         reader, writer = await asyncio.wait_for(asyncio.open_connection(host, port), timeout)

@@ -76,6 +76,10 @@ def items_of(it: Any, what: str) -> Any:
     """
     if isinstance(it, Given):
         return it
+    if getattr(getattr(it, "dtype", None), "tz", None) is not None and hasattr(it, "__array__"):
+        from .zones import Zoned, zone_name
+
+        return Zoned(as_flat(it), zone_name(it.dtype.tz))
     if isinstance(it, (str, bytes, bytearray)) or isinstance(it, memoryview) and it.itemsize == 1:
         raise TypeError(f"{what} must be in a list or an array, not in {type(it).__name__}")
     if not is_array(it):
@@ -135,6 +139,8 @@ def ints(code: str, numbers: Any, what: str) -> Any:
     Raises OverflowError if one doesn't fit, and TypeError for other types, including bool.
     """
     given = items_of(numbers, what)
+    if isinstance(given, Given):
+        raise TypeError(f"{what} must be integers, not {type(given).__name__.lower()}")
     if not is_array(given):
         if not types_of(given).isdisjoint(NO_NUMBERS):
             raise TypeError(f"{what} must be integers, not {' or '.join(it.__name__ for it in NO_NUMBERS)}")

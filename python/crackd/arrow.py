@@ -11,6 +11,7 @@ from ctypes import POINTER, byref, c_char_p, c_int, c_int64, c_void_p
 from typing import Any, Iterator, Optional, Sequence, Union
 
 from .arrays import np, whole
+from .zones import Zoned, zone_name
 
 # the formats of columns that can be keys or payloads, with the numpy types of their items
 NUMBERS = {"c": "i1", "C": "u1", "s": "i2", "S": "u2", "i": "i4", "I": "u4", "l": "i8", "L": "u8", "e": "f2"}
@@ -107,7 +108,7 @@ def columns_of_stream(data: Any, wanted: Sequence[Union[str, int]]) -> list[Any]
         while True:
             with released(filled(stream, stream.get_next, Array())) as batch:
                 if not batch.release:
-                    return [np.concatenate(it) for it in zip(*parts)]
+                    return [column.whole(each) for column, each in zip(columns, zip(*parts))]
                 parts.append([it.items(batch, before) for it in columns])
                 before += batch.length
 
@@ -122,11 +123,17 @@ class Column:
         self.place = place_of(names, wanted)
         own = schemas[self.place]
         self.name, form = names[self.place] or self.place, text_of(own.format)
-        self.dtype, self.unit = NUMBERS.get(form), None
+        self.dtype, self.unit, self.zone = NUMBERS.get(form), None, None
         if self.dtype is None:
             self.dtype, self.unit = DATES.get(form.partition(":")[0], (None, None))
+            self.zone = zone_name(form.partition(":")[2] or None) if self.dtype is not None else None
         if self.dtype is None or own.dictionary:
             raise TypeError(f"column {self.name!r} has the Arrow type {form!r}, which is no number and no date")
+
+    def whole(self, parts: Sequence[Any]) -> Any:
+        """The items of all batches."""
+        items = np.concatenate(parts)
+        return items if self.zone is None else Zoned(items, self.zone)
 
     def empty(self) -> Any:
         """An array of this type without items."""

@@ -156,6 +156,7 @@ def connect(
     key_type: Any = "uint64",
     key_decimals: Optional[int] = None,
     payload_decimals: Optional[int] = None,
+    zone: Any = None,
     policy: str = POLICY,
     timeout: Optional[float] = None,
 ) -> Client:
@@ -171,6 +172,8 @@ def connect(
     key_decimals, payload_decimals : int, optional
         The numbers of decimal places of keys and payloads: see `Table`. The server has integers, so all clients must
         use the same numbers. The default is 0.
+    zone : str or tzinfo, optional
+        The time zone of keys that are dates: see `Table`. The server has dates in UTC.
     policy : str, optional
         How queries merge pending rows: "auto", "complete", "gradual" or "ripple".
     timeout : float, optional
@@ -188,7 +191,7 @@ def connect(
     """
     if policy not in POLICIES:
         raise ValueError(f"policy must be one of {', '.join(POLICIES)}, not {policy}")
-    kind, payloads = keys_for((), key_type, key_decimals)[0], PayloadType(payload_decimals)
+    kind, payloads = keys_for((), key_type, key_decimals, zone)[0], PayloadType(payload_decimals)
     try:
         channel = Channel(host, port, timeout=checked_timeout(timeout))
     except OSError as error:

@@ -72,6 +72,7 @@ class Table(Sharded):
         splits: Optional[Sequence[Any]] = None,
         key_type: Any = None,
         key_decimals: Optional[int] = None,
+        zone: Any = None,
         **options: Any,
     ):
         """Creates an empty table.
@@ -88,10 +89,10 @@ class Table(Sharded):
             The number of shards. The default is one per worker of `client`.
         splits : array_like, optional
             The keys at which new shards begin, in ascending order. Replaces the quantiles of `sample`.
-        key_type, key_decimals, **options
+        key_type, key_decimals, zone, **options
             These, and `payload_decimals`, `policy`, `history` and `cells` are those of `crackd.Table`.
         """
-        kind, sample = keys_for(sample, key_type, key_decimals)
+        kind, sample = keys_for(sample, key_type, key_decimals, zone)
         numbers = np.sort(kind.many(sample)) if len(sample) else np.empty(0, np.uint64)
         cuts = None if splits is None else checked_splits(kind.many(splits))
         if cuts is None and not len(numbers) and shards not in (None, 1):
@@ -313,7 +314,7 @@ class Table(Sharded):
         options: dict[str, Any],
     ) -> "Table":
         """A table of the parts of a manifest, which are at these paths."""
-        kind = Keys.named(manifest["keys"]).with_decimals(manifest["key_decimals"])
+        kind = Keys.named(manifest["keys"]).with_decimals(manifest["key_decimals"]).with_zone(manifest["zone"])
         counts, options = manifest["counts"], {"payload_decimals": manifest["payload_decimals"], **options}
         samples = client.gather(client.map(sample_of_file, paths, counts, [kind] * len(paths), pure=False))
         table = cls._empty(client, kind, samples, shards, options)

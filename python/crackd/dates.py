@@ -5,9 +5,10 @@ from __future__ import annotations
 import datetime
 import functools
 import re
-from typing import Any, NamedTuple
+from typing import Any, NamedTuple, Optional
 
 from .arrays import SIGN, np, shown
+from .zones import DAYS, Instant, Zoned, seconds_of_offset, zone_name
 
 # a moment is a number of attoseconds since 1970, as a Python int
 SECOND = 10**18
@@ -32,10 +33,12 @@ EPOCH = datetime.datetime(1970, 1, 1)
 CYCLE, DAYS_OF_A_CYCLE = 400 * 12, 146_097
 FIRST_MONTH, FIRST_DAY = -1969 * 12, 1 - EPOCH.toordinal()
 
-# a date as text: one group up to the seconds, and one for their decimals
+# a date as text: groups for the day, the time up to the seconds, their decimals, and the offset from UTC
 TEXT = re.compile(
-    r"([+-]?[0-9]{4,6}(?:-[0-9]{2}){0,2}(?:[T ][0-9]{2}(?::[0-9]{2}){0,2})?)(?:(?<=:[0-9]{2}:[0-9]{2})\.([0-9]{1,18}))?"
+    r"((?:[0-9]{4}|[+-][0-9]{4,6})(?:-[0-9]{2}){0,2})"
+    r"(?:([T ][0-9]{2}(?::[0-9]{2}){0,2})(?:(?<=:[0-9]{2}:[0-9]{2})\.([0-9]{1,18}))?(Z|[+-][0-9]{2}(?::?[0-9]{2})?)?)?"
 )
+LONG_YEAR = re.compile(r"[0-9]{5,}(?:-.*)?")
 
 
 def day_of_month(month: int) -> int:
@@ -110,13 +113,59 @@ def moment_of(date: Any, what: str) -> int:
     return unit_of(found.dtype).moment(number)
 
 
-def moment_of_text(text: str) -> int:
-    """The moment of a date in a text such as 2020-01-31 or 2020-01-31T12:30:00.5."""
+class Time(NamedTuple):
+    """A date or a time that was given: a moment, or what a clock shows, as the moment when a clock of UTC shows it.
+
+    `is_day` is whether it has no time of the day.
+    """
+
+    moment: int
+    is_local: bool
+    is_day: bool = False
+
+
+def time_of(date: Any, what: str) -> Time:
+    """A date as a caller gives it: a text, or a date of Python, numpy or pandas. `what` names it in errors."""
+    if isinstance(date, str):
+        return time_of_text(date)
+    if isinstance(date, Instant):
+        return Time(moment_of(date.date, what), False)
+    found = of_numpy(date, what)
+    if has_zone(date):
+        return Time(moment_of(found, what), False)
+    return Time(moment_of(found, what), True, np.datetime_data(found.dtype)[0] in DAYS)
+
+
+def time_of_text(text: str) -> Time:
+    """The date in a text such as 2020-01-31, 2020-01-31T12:30:00.5 or 2020-01-31T12:30+01:00."""
     found = TEXT.fullmatch(text)
-    if found is None:
-        raise ValueError(f"{shown(text)!r} isn't a date such as 2020-01-31 or 2020-01-31T12:30:00.5")
+    offset = None if found is None or found[4] is None else seconds_of_offset(found[4])
+    if found is None or found[4] is not None and offset is None:
+        hint = "; a year of more than four digits needs a sign" if LONG_YEAR.fullmatch(text) else ""
+        raise ValueError(f"{shown(text)!r} isn't a date such as 2020-01-31 or 2020-01-31T12:30:00.5{hint}")
     # the decimals are added here, since numpy would overflow where they don't fit
-    return moment_of(np.datetime64(found[1]), "a date") + int((found[2] or "").ljust(18, "0"))
+    moment = moment_of(np.datetime64(found[1] + (found[2] or "")), "a date") + int((found[3] or "").ljust(18, "0"))
+    return Time(moment - (offset or 0) * SECOND, offset is None, found[2] is None)
+
+
+def has_zone(date: Any) -> bool:
+    """Whether a date of Python or pandas has a time zone."""
+    return isinstance(date, datetime.datetime) and date.utcoffset() is not None
+
+
+def zone_of_items(items: Any) -> Optional[str]:
+    """The name of the zone that all of these dates have, UTC if they have several, or None if they have none.
+
+    Raises ValueError if only some of them have a zone.
+    """
+    if isinstance(items, Zoned):
+        return items.zone
+    if np is not None and isinstance(items, np.ndarray):
+        return None
+    zones = {zone_name(it) for it in {it.tzinfo if has_zone(it) else None for it in items}}
+    if None in zones and len(zones) > 1:
+        raise ValueError("dates with a time zone and dates without one can't be the keys of one table")
+    return None if not zones else zones.pop() if len(zones) == 1 else "UTC"
 
 
 def array_of(dates: Any, what: str) -> Any:

@@ -19,6 +19,7 @@ EXACT, MOST_FOUND = 1 << 52, 10**15
 # decimal places are found among floats if each is within one part in 10**12 of its decimal, and this near to it, counted
 # in units of the last place
 NEAR, NEARNESS = 1e-12, 1e-3
+FLOATS_AT_ONCE = 1 << 14
 # wide enough for every key, payload and sum
 WIDE = decimal.Context(prec=100, Emax=decimal.MAX_EMAX, Emin=decimal.MIN_EMIN)
 # a mean that isn't a finite decimal has this many digits
@@ -175,7 +176,10 @@ def near(number: Any, decimals: int) -> Optional[int]:
     """The decimal that a finite float stands for, times 10**`decimals`, or None if there is none."""
     numerator, denominator = map(int, number.as_integer_ratio())
     numerator *= 10**decimals
-    found = round(fractions.Fraction(numerator, denominator))
+    found, rest = divmod(numerator, denominator)
+    # half to even
+    if 2 * rest > denominator or 2 * rest == denominator and found % 2:
+        found += 1
     return found if abs(numerator - found * denominator) * PARTS <= abs(found) * denominator else None
 
 
@@ -184,6 +188,8 @@ def scaled_many(code: str, given: Any, decimals: int, what: str) -> Any:
     if isinstance(given, Scaled):
         return given.to(code, decimals, what)
     found = items_of(given, what)
+    if isinstance(found, Given):
+        raise TypeError(f"{what} must be numbers, not dates")
     if np is not None and not is_array(found) and types_of(found) == {float}:
         found = np.array(found, np.float64)
     if is_array(found):
@@ -210,6 +216,19 @@ def scaled_each(code: str, given: Iterable[Any], decimals: int, what: str) -> It
 
 def rounded(code: str, floats: Any, decimals: int, what: str) -> Any:
     """An array of floats times 10**`decimals`, rounded half to even. Raises an error if one isn't near enough."""
+    result = np.empty(len(floats), np.uint64 if code == "Q" else np.int64)
+    for at in range(0, len(floats), FLOATS_AT_ONCE):
+        block, is_sure = surely_rounded(floats[at : at + FLOATS_AT_ONCE], decimals)
+        if code == "Q":
+            is_sure &= block >= 0
+        result[at : at + FLOATS_AT_ONCE] = block.view(result.dtype)
+        for place in (at + np.flatnonzero(~is_sure)).tolist():
+            result[place] = scaled_one(code, float(floats[place]), decimals, f"item {place} of the {what},")
+    return result
+
+
+def surely_rounded(floats: Any, decimals: int) -> tuple[Any, Any]:
+    """Floats times 10**`decimals`, rounded, and where that is surely the nearest integer and near enough."""
     with np.errstate(over="ignore", invalid="ignore"):
         product = floats * float(10**decimals)
         found = np.rint(product)
@@ -218,15 +237,7 @@ def rounded(code: str, floats: Any, decimals: int, what: str) -> Any:
         # the product is rounded too; what this might change is computed exactly
         rest = np.abs(found) * 2.0**-52
         is_sure = (away + rest < limit) & (away + rest < 0.5) & (np.abs(found) < EXACT)
-        numbers_found = np.where(is_sure, found, 0).astype(np.int64)
-        # a product that is 0 is exact, and no float between two integers is rounded to one below 2**52
-        is_sure |= (product == 0) & (floats == 0)
-    if code == "Q":
-        is_sure &= numbers_found >= 0
-    result = numbers_found.view(np.uint64) if code == "Q" else numbers_found
-    for place in np.flatnonzero(~is_sure).tolist():
-        result[place] = scaled_one(code, float(floats[place]), decimals, f"item {place} of the {what},")
-    return result
+    return np.where(is_sure, found, 0).astype(np.int64), is_sure | (floats == 0)
 
 
 def decimals_of(given: Any, decimals: int, what: str) -> Any:
@@ -239,6 +250,8 @@ def decimals_of(given: Any, decimals: int, what: str) -> Any:
 
 def is_scalable(given: Any) -> bool:
     """Whether these are floats or decimals, which integers with decimal places can stand for: an array or a list."""
+    if isinstance(given, Given):
+        return False
     if is_array(given):
         return bool(given.dtype.kind == "f")
     kinds = types_of(given)
@@ -263,19 +276,30 @@ def found_decimals(given: Any) -> Optional[int]:
 
 def places_of_floats(floats: Any) -> Optional[int]:
     """The most decimal places that occur in an array of floats, or None if one isn't very near to such a decimal."""
-    rest = floats
-    if not np.isfinite(rest).all():
-        return None
-    for decimals in range(MOST_DECIMALS + 1):
-        product = rest * float(10**decimals)
-        found = np.rint(product)
-        size = np.abs(found)
-        limit = np.maximum(np.minimum(size * NEAR, NEARNESS), size * 2.0**-52)
-        is_near = (np.abs(product - found) <= limit) & (size <= MOST_FOUND)
-        rest = rest[~is_near]
-        if not len(rest):
-            return decimals
-    return None
+    most = 0
+    # a block of floats stays in the processor's cache
+    for at in range(0, len(floats), FLOATS_AT_ONCE):
+        rest = floats[at : at + FLOATS_AT_ONCE]
+        if not np.isfinite(rest).all():
+            return None
+        # most blocks have no more places than those before
+        rest = rest[~are_near(rest, most)]
+        for decimals in range(MOST_DECIMALS + 1) if len(rest) else ():
+            rest, most = rest[~are_near(rest, decimals)], max(most, decimals)
+            if not len(rest):
+                break
+        if len(rest):
+            return None
+    return most
+
+
+def are_near(floats: Any, decimals: int) -> Any:
+    """Whether each float is so near to a decimal with these places that it surely stands for it."""
+    product = floats * float(10**decimals)
+    found = np.rint(product)
+    size = np.abs(found)
+    limit = np.maximum(np.minimum(size * NEAR, NEARNESS), size * 2.0**-52)
+    return (np.abs(product - found) <= limit) & (size <= MOST_FOUND)
 
 
 def places_of_one(number: Any) -> Optional[int]:

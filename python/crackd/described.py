@@ -44,6 +44,8 @@ def facts_of_types(table: Any) -> Iterator[tuple[str, str]]:
         yield "key decimals", str(table.key_decimals)
     if table.payload_decimals:
         yield "payload decimals", str(table.payload_decimals)
+    if table.zone:
+        yield "zone", table.zone
 
 
 def name_of(table: Any) -> str:

@@ -221,7 +221,8 @@ def read_manifest(path: pathlib.Path) -> dict[str, Any]:
 def _fault_of(manifest: Mapping[str, Any]) -> str:
     """What is wrong with the lists of a manifest, or an empty text."""
     kind = Keys.named(manifest["keys"])
-    kind.with_decimals(manifest.get("key_decimals", 0)), PayloadType(manifest.get("payload_decimals"))
+    kind.with_decimals(manifest.get("key_decimals", 0)).with_zone(manifest.get("zone"))
+    PayloadType(manifest.get("payload_decimals"))
     splits, files, counts, sums = (manifest[it] for it in ("splits", "files", "counts", "sums"))
     if not {len(files), len(counts), len(sums)} == {len(splits) + 1}:
         return f"is no manifest: {len(splits)} splits make {len(splits) + 1} parts, and others are named"

@@ -3,8 +3,10 @@
 from __future__ import annotations
 
 import fractions
+import functools
 import math
 import numbers
+import re
 import struct
 from typing import Any, Optional, Sequence
 
@@ -12,6 +14,7 @@ from .arrays import (
     NO_NUMBERS,
     SIGN,
     TOP,
+    Given,
     empty,
     from_ints,
     ints,
@@ -23,7 +26,7 @@ from .arrays import (
     types_of,
     whole,
 )
-from .dates import Unit, array_of, is_date, moment_of, moment_of_text, of_numpy, rescaled, unit_of
+from .dates import DAY, SECOND, Unit, array_of, has_zone, is_date, of_numpy, rescaled, time_of, unit_of, zone_of_items
 from .decimals import (
     Scaled,
     ceiling_of,
@@ -35,8 +38,11 @@ from .decimals import (
     unscaled_many,
     unscaled_one,
 )
+from .zones import GREATEST, LEAST, Zoned, clock_of, zone_name
 
 NAMES = {"u": "unsigned integers", "i": "integers", "f": "floats", "M": "dates"}
+# a type of dates with a zone, as pandas names it
+ZONED = re.compile(r"(datetime64\[[^],]+), (.+)\]")
 BY_NAME = {"uint64": "u", "int64": "i", "float64": "f"}
 # above this number not every integer is exact as a float
 GREATEST_EXACT = 1 << 53
@@ -58,6 +64,8 @@ def kind_of(keys: Any) -> "Keys":
     if isinstance(keys, Scaled):
         return Keys("u" if is_unsigned(keys.numbers) else "i", decimals=keys.decimals)
     given = items_of(keys, "keys")
+    if isinstance(given, Zoned):
+        return Keys.of_dtype(given.dates.dtype).with_zone(given.zone)
     if is_array(given):
         return Keys.of_dtype(given.dtype)
     types = types_of(given)
@@ -69,7 +77,8 @@ def kind_of(keys: Any) -> "Keys":
         if all(issubclass(it, numbers.Real) for it in types):
             return Keys("f")
     if np is not None and all(map(is_date, types)):
-        return Keys.of_dtype(np.result_type(*{of_numpy(it, "a key").dtype for it in given}))
+        dtypes = {of_numpy(it, "a key").dtype for it in given}
+        return Keys.of_dtype(np.result_type(*dtypes)).with_zone(zone_of_items(given))
     raise TypeError(f"keys of {', '.join(sorted(it.__name__ for it in types))} are not supported")
 
 
@@ -77,11 +86,12 @@ class Keys:
     """A type of keys.
 
     Its `kind` is 'u' for unsigned and 'i' for signed 64-bit integers, 'f' for floats, and 'M' for numpy's dates and
-    times in one unit, whose type is `dtype`. Integers may stand for decimals with `decimals` places.
+    times in one unit, whose type is `dtype`. Integers may stand for decimals with `decimals` places. Dates with a
+    `zone` are in UTC; callers see them in that zone.
     """
 
-    def __init__(self, kind: str, dtype: Any = None, decimals: int = 0):
-        self.kind, self.dtype, self.decimals = kind, dtype, decimals
+    def __init__(self, kind: str, dtype: Any = None, decimals: int = 0, zone: Optional[str] = None):
+        self.kind, self.dtype, self.decimals, self.zone = kind, dtype, decimals, zone
         # whether keys are integers themselves
         self._is_whole = kind in "ui" and not decimals
 
@@ -94,7 +104,7 @@ class Keys:
         if found.kind != "M":
             return Keys(found.kind)
         unit_of(found)
-        return Keys("M", found.newbyteorder("="))
+        return Keys("M", found.newbyteorder("="), zone=zone_name(getattr(dtype, "tz", None)))
 
     @staticmethod
     def named(name: Any) -> "Keys":
@@ -106,6 +116,9 @@ class Keys:
             return name
         if name is int or name is float:
             return Keys("i" if name is int else "f")
+        zoned = ZONED.fullmatch(str(name))
+        if zoned is not None:
+            return Keys.named(f"{zoned[1]}]").with_zone(zoned[2])
         # numpy takes None for float64
         if np is not None and name is not None:
             return Keys.of_dtype(np.dtype(name))
@@ -117,13 +130,22 @@ class Keys:
         return isinstance(other, Keys) and self._facts() == other._facts()
 
     def __hash__(self) -> int:
-        return hash((self.kind, str(self.dtype), self.decimals))
+        return hash((self.kind, str(self.dtype), self.decimals, self.zone))
 
     def _facts(self) -> tuple[Any, ...]:
-        return self.kind, self.dtype, self.decimals
+        return self.kind, self.dtype, self.decimals, self.zone
 
     def __repr__(self) -> str:
-        return f"Keys({self.name}{f', {self.decimals} decimals' if self.decimals else ''})"
+        more = [self.name, *([f"{self.decimals} decimals"] if self.decimals else []), *filter(None, [self.zone])]
+        return f"Keys({', '.join(more)})"
+
+    def with_zone(self, zone: Any) -> "Keys":
+        """These dates in a zone, or as they are if `zone` is None. Raises ValueError for another type of keys."""
+        if zone is None:
+            return self
+        if self.kind != "M":
+            raise ValueError(f"a zone is for dates, not for keys of {self.name}")
+        return Keys(self.kind, self.dtype, zone=zone_name(zone))
 
     def with_decimals(self, decimals: Any) -> "Keys":
         """These integers with decimal places. Raises ValueError for another type of keys."""
@@ -134,7 +156,7 @@ class Keys:
 
     @property
     def raw(self) -> "Keys":
-        """The keys as a table stores them and `raw=True` returns them: integers in place of decimals."""
+        """The keys as a table stores them and `raw=True` returns them: integers for decimals, and dates in UTC."""
         return Keys(self.kind, self.dtype)
 
     @property
@@ -180,9 +202,11 @@ class Keys:
             is_plain = self._is_whole and not isinstance(keys, Scaled)
             found = ints(self._code, keys, "keys") if is_plain else scaled_many(self._code, keys, self.decimals, "keys")
             return found if self.kind == "u" else self._of_signed(found)
-        if isinstance(keys, Scaled):
+        if isinstance(keys, Scaled) and self.kind == "f":
             keys = keys.floats()
         given = items_of(keys, "keys")
+        if isinstance(given, Given) and isinstance(given, Zoned) != (self.kind == "M"):
+            raise TypeError(f"keys must be {NAMES[self.kind]}, not {type(given).__name__.lower()}")
         return self._of_floats(given) if self.kind == "f" else self._of_dates(given)
 
     def _of_signed(self, keys: Any) -> Any:
@@ -210,29 +234,73 @@ class Keys:
     def _of_dates(self, given: Any) -> Any:
         if not len(given):
             return np.empty(0, np.uint64)
-        dates = given if is_array(given) else array_of(given, "a key")
+        dates, is_local = self._dates_of(given)
         if is_array(dates):
             if dates.dtype.kind != "M":
                 raise TypeError(f"keys must be dates, not {dates.dtype}")
             if np.isnat(dates).any():
                 raise ValueError("NaT can't be a key")
-            found = rescaled(dates, self.unit)
-            if found is not None:
+            utc = clock_of(self.zone).in_utc(dates, "keys") if self.zone is not None and is_local else dates
+            found = None if utc is None else rescaled(utc, self.unit)
+            if found is not None and (self.zone is None or self._is_within(found)):
                 return self._of_signed(found)
+            dates = dates if is_local else Zoned(dates, "UTC")
         return from_ints("Q", [self._of_date(it) for it in dates], "keys")
 
+    def _dates_of(self, given: Any) -> tuple[Any, bool]:
+        """Dates as an array if they are in one unit and none is a text, else a list; and whether they are local."""
+        if isinstance(given, Zoned):
+            return given.dates, False
+        if is_array(given):
+            if given.dtype.kind != "U":
+                return given, True
+            given = given.tolist()
+        zoned = {has_zone(it) for it in given} if self.zone is not None else {False}
+        if len(zoned) > 1 or any(issubclass(it, str) for it in types_of(given)):
+            return given, True
+        found = array_of(given, "a key")
+        return (found, zoned == {False}) if is_array(found) else (given, True)
+
+    def _is_within(self, numbers: Any) -> bool:
+        """Whether a table with a zone can hold these numbers of units."""
+        least, greatest = self._limits
+        return bool(least <= int(numbers.min()) and int(numbers.max()) <= greatest)
+
+    @functools.cached_property
+    def _limits(self) -> tuple[int, int]:
+        """The least and the greatest number of units. With a zone, local times must fit too, and be in its years."""
+        if self.zone is None:
+            return 1 - SIGN, SIGN - 1
+        day = self.unit.least_from(DAY)
+        years = self.unit.least_from(LEAST * SECOND), self.unit.least_from(GREATEST * SECOND)
+        return max(1 - SIGN + day, years[0]), min(SIGN - 1 - day, years[1])
+
     def _of_date(self, key: Any) -> int:
-        moment = moment_of(key, "a key")
+        moment = self._moment(key, "a key", f"the key {shown(key)}")
         number = self.unit.least_from(moment)
-        if not -SIGN < number < SIGN:
-            raise OverflowError(f"the key {shown(key)} doesn't fit into {self.dtype}")
+        least, greatest = self._limits
+        if not least <= number <= greatest:
+            where = "" if self.zone is None else f" in the zone {self.zone}"
+            raise OverflowError(f"the key {shown(key)} doesn't fit into {self.dtype}{where}")
         if self.unit.moment(number) != moment:
             raise ValueError(f"the key {shown(key)} isn't exact as {self.dtype}")
         return number + SIGN
 
+    def _moment(self, date: Any, what: str, which: str) -> int:
+        """The moment of a date or a time, which is local if it has no zone and the keys have one."""
+        found = time_of(date, what)
+        if self.zone is None or not found.is_local:
+            return found.moment
+        seconds, rest = divmod(found.moment, SECOND)
+        return clock_of(self.zone).moment(seconds, found.is_day, which) * SECOND + rest
+
     def back(self, found: Any) -> Any:
-        """The keys that have these numbers, as an array. For decimals these are the nearest floats."""
-        return unscaled_many(self._back(found), self.decimals)
+        """The keys that have these numbers, as an array.
+
+        For decimals these are the nearest floats, and for dates with a zone what its clocks show.
+        """
+        keys = self._back(found)
+        return unscaled_many(keys, self.decimals) if self.zone is None else clock_of(self.zone).shown(keys)
 
     def exact(self, found: Any) -> Any:
         """The keys that have these numbers, in a form from which `many` gets the same numbers."""
@@ -240,6 +308,8 @@ class Keys:
 
     def of_raw(self, keys: Any) -> Any:
         """Keys as `raw` returns them in a form that `many` takes for what they stand for."""
+        if self.zone is not None:
+            return Zoned(keys, self.zone)
         return Scaled(keys, self.decimals) if self.decimals else keys
 
     def _back(self, found: Any) -> Any:
@@ -260,7 +330,8 @@ class Keys:
         if self.kind == "f":
             return _float_of(number - SIGN if number >= SIGN else TOP - 1 - number)
         if self.kind == "M":
-            return np.int64(number - SIGN).view(self.dtype)
+            date = np.int64(number - SIGN).view(self.dtype)
+            return date if self.zone is None else clock_of(self.zone).time(date, self.unit.moment(number - SIGN))
         return unscaled_one(number if self.kind == "u" else number - SIGN, self.decimals)
 
     def bound(self, end: Any) -> int:
@@ -283,7 +354,7 @@ class Keys:
     def _exact(self, end: Any) -> Any:
         """An end as a Python number that compares exactly with others. For a date this is its moment."""
         if self.kind == "M":
-            return moment_of_text(end) if isinstance(end, str) else moment_of(end, "the end of a range")
+            return self._moment(end, "the end of a range", f"the end {shown(end)} of a range")
         if self.decimals:
             return end_of(end, self.decimals)
         # numpy would convert its integers to floats when it compares or rounds them
@@ -350,13 +421,18 @@ class Keys:
         return from_ints("Q", [it[0] for it in pairs], "keys"), from_ints("Q", [it[1] for it in pairs], "keys")
 
 
-def keys_for(sample: Any, key_type: Any, key_decimals: Optional[int]) -> tuple[Keys, Any]:
+def keys_for(
+    sample: Any, key_type: Any = None, key_decimals: Optional[int] = None, zone: Any = None
+) -> tuple[Keys, Any]:
     """The type of a table's keys by the options of an opening, and the sample in a form that has this type."""
     if key_decimals is not None:
         sample = decimals_of(sample, checked_decimals(key_decimals, "key_decimals"), "keys")
     elif isinstance(sample, Scaled) and not isinstance(key_type, Keys):
         key_decimals = sample.decimals
     kind = kind_of(sample) if key_type is None else Keys.named(key_type)
+    if kind.kind == "M" and kind.zone is None and zone is None and len(sample):
+        zone = zone_of_items(items_of(sample, "keys"))
+    kind = kind.with_zone(zone)
     return kind if key_decimals is None else kind.with_decimals(key_decimals), sample
 
 

@@ -10,8 +10,8 @@ from .decimals import INTEGERS, PayloadType
 from .forks import NoLock, leave_in_children
 from .keys import Keys
 from .layout import PartLayout
+from .rows import Row, Rows, ZonedRows
 from .saved import types_of
-from .rows import Row, Rows
 from .typed import Counts, RowNumbers
 
 Answer = TypeVar("Answer")
@@ -59,6 +59,11 @@ class Primitives(abc.ABC):
         return self._payloads.decimals
 
     @property
+    def zone(self) -> Optional[str]:
+        """The time zone of the keys, such as "Europe/Berlin", or None. Naive times are of this zone."""
+        return self._keys.zone
+
+    @property
     @abc.abstractmethod
     def policy(self) -> str:
         """How queries merge pending rows."""
@@ -101,7 +106,10 @@ class Primitives(abc.ABC):
         rows, keys, payloads = found
         if raw:
             return Rows(rows, self._keys.raw.back(keys), payloads)
-        return Rows(rows, self._keys.back(keys), self._payloads.back(payloads))
+        found_keys, found_payloads = self._keys.back(keys), self._payloads.back(payloads)
+        if self._keys.zone is None:
+            return Rows(rows, found_keys, found_payloads)
+        return ZonedRows.of(rows, found_keys, found_payloads, self._keys.exact(keys))
 
     def _nothing(self, answer: Answer) -> Answer:
         """Returns the answer for an empty range. Raises an error if the table is closed."""

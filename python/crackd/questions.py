@@ -320,7 +320,7 @@ def neighbours(edges: Any) -> tuple[Any, Any]:
     return given[:-1], given[1:]
 
 
-def sums_array(sums: list[int], payloads: PayloadType) -> Any:
+def sums_array(sums: list[int], payloads: PayloadType = INTEGERS) -> Any:
     """Sums as an array of int64 if they fit, else of objects. Decimals become floats. Without numpy it is a list."""
     if np is None:
         return payloads.back_each(sums)

@@ -6,6 +6,7 @@ from typing import TYPE_CHECKING, Any, Iterator, NamedTuple
 
 from .arrays import TOP, from_ints, ints, np, shown, whole
 from .typed import KeyArray, OneKey, OnePayload, Payloads, RowNumbers
+from .zones import Zoned, clock_of
 
 if TYPE_CHECKING:
     import pandas
@@ -67,6 +68,31 @@ class Rows(NamedTuple):
 
         index = pandas.Index(self.rows, name="row", dtype="uint64")
         return pandas.DataFrame({"key": dates_of_pandas(self.keys), "payload": self.payloads}, index=index)
+
+
+class ZonedRows(Rows):
+    """Rows of a table with a time zone: `keys` has what its clocks show, and `to_pandas` has the zone."""
+
+    _moments: Zoned
+
+    @classmethod
+    def of(cls, rows: Any, keys: Any, payloads: Any, moments: Zoned) -> ZonedRows:
+        """Rows whose keys are these moments."""
+        found = cls(rows, keys, payloads)
+        found._moments = moments
+        return found
+
+    def chunks(self, size: int = CHUNK) -> Iterator[Rows]:
+        """Yields the rows in order, at most `size` at a time. The arrays are views of these arrays."""
+        for at, part in zip(range(0, len(self.rows), checked_size(size)), super().chunks(size)):
+            yield ZonedRows.of(*part, self._moments[at : at + size])
+
+    def to_pandas(self) -> pandas.DataFrame:
+        """Returns the frame of `Rows.to_pandas`, whose keys are times with the zone."""
+        frame = Rows(self.rows, self._moments.dates, self.payloads).to_pandas()
+        zone = clock_of(self._moments.zone).of_pandas
+        frame["key"] = frame["key"].dt.tz_localize("UTC").dt.tz_convert(zone)
+        return frame
 
 
 class Rebalanced(NamedTuple):

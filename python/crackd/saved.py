@@ -30,9 +30,9 @@ BEGIN = b"\x93NUMPY\x01\x00" + struct.pack("<H", HEAD - 10)
 END, MAGIC = struct.Struct("<II8s"), b"\x93CRACKD\n"
 # What else may be said about the rows, and the value where it isn't said. A file with a field that isn't named here is
 # refused, since its rows may mean something else than this version takes them for.
-FIELDS: dict[str, Any] = {"key_decimals": 0, "payload_decimals": 0}
+FIELDS: dict[str, Any] = {"key_decimals": 0, "payload_decimals": 0, "zone": None}
 # those of them that the types of a table say
-OF_TYPES = ("key_decimals", "payload_decimals")
+OF_TYPES = ("key_decimals", "payload_decimals", "zone")
 # the head of a file of an earlier version is shorter than this
 MOST_HEAD = 1 << 17
 # how many bytes are summed up before a signal is noticed
@@ -57,13 +57,13 @@ class Saved(NamedTuple):
     @staticmethod
     def of(kind: Keys, rows: Any, fields: Mapping[str, Any]) -> "Saved":
         """The same, of what a file says, with a value for each of `FIELDS`."""
-        kind = kind.with_decimals(fields["key_decimals"])
+        kind = kind.with_decimals(fields["key_decimals"]).with_zone(fields["zone"])
         return Saved(kind, PayloadType(fields["payload_decimals"]), rows, kept_of(fields))
 
 
 def types_of(kind: Keys, payloads: PayloadType) -> dict[str, Any]:
     """What a file says of its types besides the types of its numbers, without defaults."""
-    said = {"key_decimals": kind.decimals, "payload_decimals": payloads.decimals}
+    said = {"key_decimals": kind.decimals, "payload_decimals": payloads.decimals, "zone": kind.zone}
     return {name: it for name, it in said.items() if it != FIELDS[name]}
 
 

@@ -230,6 +230,7 @@ def serve(
     key_type: Any = None,
     key_decimals: Optional[int] = None,
     payload_decimals: Optional[int] = None,
+    zone: Any = None,
     partitions: Optional[int] = None,
     splits: Optional[Sequence[Any]] = None,
     workers: int = 8,
@@ -248,7 +249,7 @@ def serve(
         Keys distributed like those that the table will hold. Its quantiles divide the keys into partitions.
     rows : int, optional
         About how many rows the table will hold. The default is the length of `sample`.
-    key_type, key_decimals, payload_decimals, partitions, splits, policy
+    key_type, key_decimals, payload_decimals, zone, partitions, splits, policy
         Those of `Table`. The server itself has integers: `connect` of the returned object knows what they stand for.
     workers : int, optional
         The number of threads that serve connections, 1 to 64.
@@ -268,7 +269,7 @@ def serve(
     """
     if policy not in POLICIES:
         raise ValueError(f"policy must be one of {', '.join(POLICIES)}, not {policy}")
-    kind, sample = keys_for(sample, key_type, key_decimals)
+    kind, sample = keys_for(sample, key_type, key_decimals, zone)
     payloads = PayloadType(payload_decimals)
     cuts = splits_of(kind, sample, rows, partitions, splits)
     limits = (("--workers", "workers", workers), ("--limit", "history", history), ("--cells", "cells", cells))

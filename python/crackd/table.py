@@ -6,7 +6,7 @@ from bisect import bisect_right
 from functools import partial
 from typing import Any, Callable, Optional, Sequence
 
-from .arrays import items_of, np, whole
+from .arrays import Given, items_of, np, whole
 from .base import MOST_PARTS, POLICIES, POLICY, SHIFT
 from .decimals import PayloadType, Scaled, decimals_of
 from .errors import Error, Refused, refused
@@ -76,6 +76,7 @@ class Table(TableHere, Sharded):
         key_type: Any = None,
         key_decimals: Optional[int] = None,
         payload_decimals: Optional[int] = None,
+        zone: Any = None,
         shards: Optional[int] = None,
         partitions: Optional[int] = None,
         splits: Optional[Sequence[Any]] = None,
@@ -98,6 +99,9 @@ class Table(TableHere, Sharded):
             The numbers of decimal places of keys and payloads, 0 to 9. With `payload_decimals=2` the payload 12.34 is
             stored as the integer 1234, exactly. Payloads may then be integers, decimals, fractions or floats. A float is
             rounded, half to even, if it is within one part in 10**9 of such a decimal, and else refused.
+        zone : str or tzinfo, optional
+            The time zone of keys that are dates, such as "Europe/Berlin". Texts and times without a zone are of this
+            zone, and so are results; keys are stored in UTC. The default is the zone of `sample`.
         shards : int, optional
             The number of shards, 1 to 1024. The default is one for each 50,000 rows, at most one for each processor and
             at most 16; without numpy it is 1. There are never more shards than partitions.
@@ -116,7 +120,7 @@ class Table(TableHere, Sharded):
         if policy not in POLICIES:
             raise ValueError(f"policy must be one of {', '.join(POLICIES)}, not {policy}")
         library()
-        self._keys, sample = keys_for(sample, key_type, key_decimals)
+        self._keys, sample = keys_for(sample, key_type, key_decimals, zone)
         self._payloads, self._policy = PayloadType(payload_decimals), policy
         has_ends = len(sample) > 0 or splits is not None
         count = self._shards_for(len(sample) if rows is None else rows, shards, has_ends or partitions == 1)
@@ -198,7 +202,7 @@ class Table(TableHere, Sharded):
             elif isinstance(payloads, Scaled):
                 payload_decimals = payloads.decimals
         # `Table` maps each key of a sample to a number, so it gets only some keys of a long array
-        is_long = np is not None and isinstance(keys, (np.ndarray, Scaled))
+        is_long = np is not None and isinstance(keys, (np.ndarray, Given))
         sample = keys[:: max(1, len(keys) // SAMPLED)] if is_long else keys
         options |= {"key_decimals": key_decimals, "payload_decimals": payload_decimals}
         table = cls(sample, len(keys), **options)

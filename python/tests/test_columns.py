@@ -325,7 +325,8 @@ class Errors(unittest.TestCase):
 class Stub:
     """Stands in for a table of a server."""
 
-    key_type, _is_here = "int64", False
+    key_type, key_decimals, payload_decimals, _is_here = "int64", 0, 0, False
+    zone = None
 
     def __init__(self, fault=None, rows=5, told=("policy", "<a & b>")):
         self.fault, self.rows, self.told = fault, rows, told

@@ -18,7 +18,7 @@ TEXTS = {
     "-0001-12-31": (-1, 12, 31, 0),
     "-9999": (-9999, 1, 1, 0),
     "+2020-02-29": (2020, 2, 29, 0),
-    "10000-01-01": (10_000, 1, 1, 0),
+    "+10000-01-01": (10_000, 1, 1, 0),
     "9999-12-31T23:59:59": (9999, 12, 31, 86_399),
     "+123456-07-04 01:02:03": (123_456, 7, 4, 3723),
     "-123456-07": (-123_456, 7, 1, 0),
@@ -28,10 +28,15 @@ TEXTS = {
     "1969-12-31 23:59:59.9": (1969, 12, 31, fractions.Fraction(863_999, 10)),
     "2020-01-31T12:30:00.5": (2020, 1, 31, fractions.Fraction(90_001, 2)),
     "2262-04-11T23:47:16.854775808": (2262, 4, 11, 85_636 + fractions.Fraction(854_775_808, 10**9)),
+    "2020-01-31T12:30Z": (2020, 1, 31, 45_000),
+    "2020-01-01T00:00+01:00": (2019, 12, 31, 82_800),
+    "2020-02-28 23:59:59.5-0030": (2020, 2, 29, fractions.Fraction(3599, 2)),
+    "1969-12-31T23-23": (1970, 1, 1, 79_200),
 }
 NO_TEXTS = ["", "now", "today", "NaT", "nat", "2020-1-1", "20-01-01", "2020-01-01T", "2020-01-01 ", " 2020", "2020-"]
 NO_TEXTS += ["2020-13-01", "2020-00-01", "2021-02-29", "2020-01-32", "2020-01-01T24:00", "2020-01-01T12:60"]
-NO_TEXTS += ["2020-01-01Z", "2020-01-01T00:00+01:00", "2020-01-01T12:30:00.", "2020-01-01T12:30.5", "2020-01-01.5"]
+NO_TEXTS += ["2020-01-01Z", "2020-01-01+01:00", "2020-01-01T00:00+1", "2020-01-01T00:00+24:00", "2020-01-01T00:00 Z"]
+NO_TEXTS += ["2020-01-01T00:00+01:60", "2020-01-01T00:00z", "202001", "10000", "10000-01-01", "20200101", "2020Z", "2020-01-01T12:30:00.", "2020-01-01T12:30.5", "2020-01-01.5"]
 NO_TEXTS += ["2020-01-01T12:30:00.1234567890123456789", "1234567-01-01", "123", "2020/01/01", "20200101x", "\u0662020"]
 
 
@@ -65,11 +70,31 @@ class Dates:
                     self.assertRaises(ValueError, table.sum, None, text)
                     self.assertRaises(ValueError, table.count_many, [text], None)
                     self.assertRaises(ValueError, table.count_by, ["1900", text])
-            for text in ("2020-01-01", "2020"):
-                # the end of a range may be text, but a key may not
-                self.assertRaises(TypeError, table.insert, text, 1)
-                self.assertRaises(TypeError, table.insert_many, [text], [1])
+                    self.assertRaises(ValueError, table.insert, text, 1)
+                    self.assertRaises(ValueError, table.insert_many, ["2020", text], [1, 2])
+                    self.assertRaises(ValueError, table.insert_many, np.array(["2020", text]), [1, 2])
+                    self.assertRaises(ValueError, table.update, 0, text, 1)
+                    self.assertRaises(ValueError, table.move, 0, text)
+            self.assertRaisesRegex(ValueError, "a year of more than four digits needs a sign", table.count, "202001", None)
             self.assertEqual(table.count(), 1)
+
+    def test_each_text_is_a_key(self):
+        for text, (year, month, day, seconds) in TEXTS.items():
+            moment = (days_before(year, month) + day - 1) * 86_400 + seconds
+            for unit, size in [("D", 86_400), ("s", 1), ("us", fractions.Fraction(1, 10**6))]:
+                number = moment / fractions.Fraction(size)
+                with self.subTest(text, unit=unit), self.table(key_type=f"datetime64[{unit}]") as table:
+                    if number.denominator > 1:
+                        self.assertRaises(ValueError, table.insert, text, 1)
+                        self.assertRaises(ValueError, table.insert_many, [text], [1])
+                        continue
+                    key = np.int64(int(number)).view(f"datetime64[{unit}]")
+                    rows = [table.insert(text, 1), *table.insert_many([text, key], [2, 4])]
+                    rows.append(table.insert_many(np.array([text]), [8])[0])
+                    self.assertEqual(table.select().keys.tolist(), [key.item()] * 4)
+                    self.assertTrue(table.update(rows[0], text, 16) and table.update_many(rows[1:2], [text], [32])[0])
+                    moved = table.move(rows[2], text)
+                    self.assertEqual((table.get(moved).key, table.sum(text, None), table.sum(key)), (key, 60, 60))
 
 
     def test_the_epoch_of_each_unit_in_each_other(self):

@@ -258,10 +258,12 @@ class EndsOfDates:
             self.assertEqual((table.count("2020"), table.count("2020-01"), table.count("+2020-01-01 12:30")), (5, 5, 3))
             self.assertEqual(numbers(table.count_many(times, None)), [5, 4, 3, 2, 1])
             self.assertEqual(numbers(table.count_many(np.array(times), None)), [5, 4, 3, 2, 1])
+            for each in ("2020-01-01T12:30:00.25Z", "2020-01-01 13:30:00.25+01", "2020-01-01T07:00:00.25-0530"):
+                self.assertEqual((table.count(each), table.count(None, each)), (2, 3))
             near = "2020-01-01T12:30:00.250000000000000001"
             self.assertEqual((table.count(near), table.count(None, near[:-1] + "0")), (1, 3))
             wrong = ["", "now", "NaT", "2020-1-1", "20-01-01", "2020-13", "2020-01-01T12.5", "2020-01-01 12:30.5", "٢٠"]
-            wrong += [f"2020-01-01T{it}" for it in ("12:30:00.", "12:30:00.5x", "12:30:00Z", "25", "12:30:00.5+01:00")]
+            wrong += [f"2020-01-01T{it}" for it in ("12:30:00.", "12:30:00.5x", "12:30:00z", "25", "12:30:00.5+1:00")]
             for text in wrong:
                 self.assertRaises(ValueError, table.count, text)
                 self.assertRaises(ValueError, table.count_many, [text], None)

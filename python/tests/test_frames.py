@@ -67,7 +67,7 @@ class Frames:
     """Rows of frames, however a table is reached."""
 
     def rows_of(self, table):
-        got = table.select()
+        got = table.select(raw=True)
         return dict(zip(numbers(got.rows), zip(got.keys.tolist(), numbers(got.payloads))))
 
     def test_columns_of_each_type(self):
@@ -400,6 +400,13 @@ class InProcessFrames(Frames, InProcess, unittest.TestCase):
                 with self.subTest(name), crackd.Table.from_pandas(frame, "k", "p", **options) as table:
                     wanted = dict(zip(numbers(table.row_numbers), zip(keys, range(10, 10 + len(keys)))))
                     self.assertEqual((self.rows_of(table), table.key_type), (wanted, key_type))
+                    self.assertEqual(table.zone, "Europe/Berlin" if name == "zoned" else None)
+                    if name == "zoned":
+                        # summer and winter differ
+                        shown = column.dt.tz_localize(None).to_numpy()
+                        self.assertEqual(sorted(table.select().keys), sorted(shown))
+                        self.assertEqual(sorted(table.select().to_pandas()["key"]), sorted(column))
+                        self.assertEqual(table.get(table.row_numbers[1]).key, column[1])
         with crackd.Table.from_pandas(pd.Series([5, 6], index=[2, 1])) as table:
             self.assertEqual(table.select(2, 3).payloads.tolist(), [5])
         self.assertRaises(TypeError, crackd.Table.from_pandas, np.arange(3))

@@ -197,10 +197,10 @@ class Arguments:
             self.assertTrue(table.update(rows[1], zoned, 1))
             self.assertTrue(all(table.update_many(many[1:3], [zoned, noon], [0, 0])))
             self.assertEqual((table.sum(noon), table.sum(zoned), table.sum(None, noon)), (69, 5, 9))
-            for key in (5, 0.5, True, "2020-01-01", None, np.datetime64("NaT"), np.timedelta64(5, "s"), [day]):
+            for key in (5, 0.5, True, "2020-1-1", "now", None, np.datetime64("NaT"), np.timedelta64(5, "s"), [day]):
                 self.assertRaises((TypeError, ValueError), table.insert, key, 1)
                 self.assertRaises((TypeError, ValueError), table.insert_many, [noon, key], [1, 1])
-            self.assertRaises(TypeError, table.insert_many, np.array(["2020-01-01"]), [1])
+            self.assertRaises(TypeError, table.insert_many, np.array([b"2020-01-01"]), [1])
 
     @wants_numpy
     def test_dates_that_are_not_exact_or_do_not_fit(self):
@@ -268,8 +268,9 @@ class Arguments:
         stamp = pandas.Timestamp("2020-01-01 00:00:00.000000007")
         index = pandas.DatetimeIndex([stamp, stamp + pandas.Timedelta(1, "ns")])
         zoned = index.tz_localize("UTC").tz_convert("Europe/Berlin")
-        for sample in ([stamp], index, zoned, pandas.Series(zoned)):
-            with self.table(sample) as table:
+        for sample, zone in [([stamp], None), (index, None), (zoned, "UTC"), (pandas.Series(zoned), "UTC")]:
+            # in UTC times without a zone are those of UTC
+            with self.table(sample, zone=zone) as table:
                 table.insert(stamp, 1), table.insert(zoned[1], 2)
                 for at, keys in enumerate((index, list(index), zoned, list(zoned), pandas.Series(zoned, [5, 5]))):
                     table.insert_many(keys, [4 << 2 * at, 8 << 2 * at])
@@ -277,6 +278,16 @@ class Arguments:
                 self.assertEqual((table.sum(None, index[1]), table.sum(index[1])), (0b10101010101, 0b101010101010))
                 self.assertRaises(ValueError, table.insert, pandas.NaT, 1)
                 self.assertRaises(ValueError, table.insert_many, [stamp, pandas.NaT], [1, 1])
+        for sample in (zoned, list(zoned), pandas.Series(zoned)):
+            with self.table(sample) as table:
+                self.assertEqual(table.zone, "Europe/Berlin")
+                shown = zoned.tz_localize(None)
+                for at, keys in enumerate((shown, list(shown), zoned, list(zoned), pandas.Series(shown, [5, 5]))):
+                    table.insert_many(keys, [1 << 2 * at, 2 << 2 * at])
+                wanted = (0b101010101, 0b1010101010)
+                for end in (shown[1], zoned[1]):
+                    self.assertEqual((table.sum(None, end), table.sum(end)), wanted)
+                self.assertEqual(set(table.select().keys), set(shown.to_numpy()))
         with self.table(key_type="datetime64[us]") as table:
             self.assertRaises(ValueError, table.insert, stamp, 1)
             self.assertRaises(ValueError, table.insert_many, index, [1, 1])
