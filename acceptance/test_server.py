@@ -12,9 +12,12 @@ import re
 import resource
 import select
 import signal
+import socket
+import subprocess
 import time
 import typing
 import unittest
+from unittest import mock
 
 import fixtures
 from fixtures import Client, Server, all_at_once, expect, serving, side_by_side
@@ -191,6 +194,42 @@ class Crowd:
         return (of * len(self.honest + self.late) + more for of, more in zip(WORKED, (reads, 0, 0, 0)))
 
 
+class Supervised:
+    """A server whose standard input and output are a socket, `lines`, over which it has two sessions."""
+
+    def __init__(self, program: str, *words: str) -> None:
+        self.port = fixtures.free_port()
+        self.socket, theirs = socket.socketpair()
+        self.socket.settimeout(fixtures.SECONDS)
+        command = [program, "serve", "--port", str(self.port), "--supervised", "--quiet", *words]
+        with theirs:
+            self.process = subprocess.Popen(command, stdin=theirs, stdout=theirs, stderr=subprocess.PIPE, text=True)
+        self.lines = self.socket.makefile("rw", encoding="ascii")
+
+    def __enter__(self) -> typing.Any:
+        return self
+
+    def __exit__(self, *_: object) -> None:
+        self.process.kill()
+        self.process.communicate()
+        self.lines.close()
+        self.socket.close()
+
+    def exchange(self, statement: str, *wanted: str) -> None:
+        """Writes a line, and expects these lines next."""
+        self.lines.write(f"{statement}\n")
+        self.lines.flush()
+        expect(f"after {statement!r}", list(wanted), [self.lines.readline().rstrip("\n") for _ in wanted])
+
+    def wait(self, output: str, complaint: str = "", status: int = 0) -> None:
+        """Ends the input. The rest of the output, standard error and the status must be these."""
+        self.socket.shutdown(socket.SHUT_WR)
+        expect("the output", output, self.lines.read())
+        complained = self.process.communicate(timeout=fixtures.SECONDS)[1]
+        expect("standard error", complaint, complained[: len(complaint) or None])
+        expect("status", status, self.process.returncode)
+
+
 class Servers(fixtures.Case):
     """Servers with many clients, and servers with --until-eof and --idle."""
 
@@ -365,6 +404,45 @@ class Servers(fixtures.Case):
                 # a client that comes before the server has noticed the end is still served
                 others = sum(1 for _ in iter(lambda: is_served(it.port), False))
             it.wait((1, 1, 0, 1), *it.notes(1 + others))
+
+    def test_supervised_first_and_supervised_last(self) -> None:
+        """A session before the port is opened, and one after the clients; the next bytes stop the server between."""
+        for workers in ("1", "3"):
+            with Supervised(self.program, "--until-eof", "--workers", workers, "100") as server:
+                server.exchange("insert 5 50", "row 0.0")
+                server.exchange("fetch", "refused 1")
+                with self.assertRaises(ConnectionRefusedError):
+                    Client(server.port)
+                server.exchange("quit", "bye", f"listening {server.port}")
+                with Client(server.port) as one:
+                    one.ask("count 0 10", "count 1")
+                    one.ask("insert 150 60", "row 1.0")
+                    server.exchange("count 0 10", "drained")
+                    one.is_at_end()
+                server.exchange("select 0 200", "rows 2", "0.0 5 50", "1.0 150 60")
+                server.exchange("delete 0.0", "gone 5 50")
+                server.exchange("quit", "bye")
+                server.wait("accepted 6 inserted 2 deleted 1 held 1\n")
+
+    def test_supervised_first_and_last_with_counted_sessions(self) -> None:
+        with Supervised(self.program, "--sessions", "1") as server:
+            server.exchange("quit", "bye", f"listening {server.port}")
+            with Client(server.port) as one:
+                one.ask("insert 5 50", "row 0.0")
+                one.ask("quit", "bye")
+            expect("after the session", "drained\n", server.lines.readline())
+            server.exchange("count 0 10", "count 1")
+            server.wait("accepted 2 inserted 1 deleted 0 held 1\n")
+
+    def test_supervised_first_input_that_ends(self) -> None:
+        """Without a supervisor the server ends, once it has been open for a moment."""
+        with Supervised(self.program, "--until-eof") as server:
+            server.exchange("insert 5 50", "row 0.0")
+            server.wait(f"listening {server.port}\ndrained\naccepted 1 inserted 1 deleted 0 held 1\n")
+        with socket.create_server(("127.0.0.1", 0)) as taken, mock.patch.object(fixtures, "free_port") as free:
+            free.return_value = taken.getsockname()[1]
+            with Supervised(self.program, "--until-eof") as server:
+                server.wait("", "crackd: refused 17", 1)
 
     def test_the_end_of_the_input_alone_ends_a_server(self) -> None:
         """What a server with --until-eof reads changes nothing: it accepts connections until the end."""

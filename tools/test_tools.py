@@ -6,6 +6,8 @@ import contextlib
 import io
 import pathlib
 import re
+import shutil
+import subprocess
 import sys
 import tempfile
 import unittest
@@ -549,6 +551,29 @@ class Documents(unittest.TestCase):
         pages = {name: text for name, text in every.items() if name not in ("DEFINITIONS.md", "BENCHMARKS.md")}
         self.assertLessEqual(sum(len(it.split()) for it in pages.values()), 30_000)
         self.assertLessEqual(len(pages["README.md"].splitlines()), 120)
+
+    def test_the_readme_says_what_its_picture_shows(self):
+        """How many queries there are, that the first one cracks all rows, the last one none, and others between."""
+        drawn = crates.read(crates.TOP / "docs" / "cracking.svg")
+        cracked = [int(it.replace(",", "")) for it in re.findall(r'<text class="text"[^>]*>([\d,]+)</text>', drawn)]
+        rows = len(crates.read(crates.TOP / "examples" / "events.csv").splitlines()) - 1
+        self.assertEqual((len(cracked), cracked[0], cracked[-1]), (12, rows, 0))
+        self.assertTrue(0 < min(cracked[1:-1]) and max(cracked[1:-1]) < rows)
+        # so it isn't so that each query has fewer rows than those before it
+        self.assertNotEqual(cracked, sorted(cracked, reverse=True))
+        text = re.search(r"!\[(.*)\]\(docs/cracking.svg\)", crates.read(crates.TOP / "README.md"))[1]
+        said = f"twelve queries crack it: the first one cracks all {rows:,} rows, a later one only the pieces in which"
+        self.assertIn(said, text)
+        self.assertTrue(text.endswith("a repeated one none"))
+
+    def test_the_readme_names_the_logic_and_the_memory_of_a_row(self):
+        pages = [crates.read(crates.TOP / it) for it in ("README.md", "docs/GUIDE.md")]
+        for numbers in ("97", "98", "127 to 199 in Python"):
+            self.assertTrue(all(numbers in it for it in pages), numbers)
+        if shutil.which("rt") is None:
+            self.skipTest("rt isn't installed")
+        said = subprocess.run(["rt", "version"], capture_output=True, text=True, check=True).stdout.split()
+        self.assertIn(f"\n    logic {said[-1]}\n", pages[0])
 
     def test_definitions_are_the_comments_of_specs(self):
         page = defined.page()

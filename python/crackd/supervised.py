@@ -57,7 +57,7 @@ class BadArguments(Exception):
 
 
 class Options:
-    """The command line: the words for the program, the two files, and whether splits or a number of sessions are given."""
+    """The command line: the words for the program, the two files, and whether there are splits or counted sessions."""
 
     def __init__(self, words: Sequence[str]):
         self.words: list[str] = []

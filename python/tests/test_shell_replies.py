@@ -300,7 +300,8 @@ class Splits(unittest.TestCase):
 
     def sent_after(self, *statements, renewed=True, policy="auto", rows=11):
         """What the servers before and after the load were sent, and the splits of the second one."""
-        answers = {"insert": "row 0.0", "policy": "policy gradual", "quit": "bye", "delete": "none", "count": "count 0"}
+        answers = {"insert": "row 0.0", "policy": "policy gradual", "quit": "bye"}
+        answers |= {"delete": "none", "count": "count 0"}
         answer = lambda line: [answers[line.split()[0]]]
         first, second, splits = Answering(answer), Answering(answer), []
         first.close = mock.Mock()
@@ -323,7 +324,8 @@ class Splits(unittest.TestCase):
         for before in ([], ["count 0 5"], ["delete 0.0"], ["policy gradual"]):
             first, second, splits = self.sent_after(*before)
             self.assertEqual((first, len(splits), len(splits[0])), ([*before, "quit"], 1, 1))
-            self.assertEqual(second[:2], [f"policy {'gradual' if 'policy gradual' in before else 'auto'}", "insert 0 0"])
+            policy = "gradual" if "policy gradual" in before else "auto"
+            self.assertEqual(second[:2], [f"policy {policy}", "insert 0 0"])
             self.assertEqual((len(second), splits[0]), (12, [5]))
 
     def test_it_isnt_if_something_was_written_or_it_is_anothers(self):

@@ -121,7 +121,7 @@ class Libraries(unittest.TestCase):
     def test_one_that_is_missing_or_is_none(self):
         with tempfile.TemporaryDirectory() as room, mock.patch.object(library, "_loaded", None):
             with mock.patch.object(library, "find_library", lambda: None):
-                self.assertRaisesRegex(ImportError, "make lib", library.library)
+                self.assertRaisesRegex(ImportError, "isn't built: run `make lib-unproved`", library.library)
             path = pathlib.Path(room) / "libcrackd.so"
             for content in (None, b"", b"no library"):
                 if content is not None:

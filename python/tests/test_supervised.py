@@ -1,9 +1,12 @@
 """`python3 -m crackd serve`: signals, files that are loaded and saved, and the program's own output and status."""
 
 import contextlib
+import json
 import os
 import pathlib
+import re
 import resource
+import shlex
 import signal
 import socket
 import subprocess
@@ -20,16 +23,18 @@ from crackd.server import find_program, free_port
 SECONDS = 60
 CLIENTS = 500 if os.environ.get("CRACKD_TESTS") == "all" else 20
 PACKAGE = str(pathlib.Path(crackd.__file__).resolve().parent.parent)
+GUIDE = pathlib.Path(PACKAGE).parent / "docs" / "GUIDE.md"
 OLD = "key,payload\n1,10\n2,20\n3,30\n"
 
 
 class Served:
     """A server by the package, whose standard input is /dev/null, in a folder."""
 
-    def __init__(self, room, *words, program=None, errors=subprocess.PIPE, prepare=None, port=None):
+    def __init__(self, room, *words, program=None, errors=subprocess.PIPE, prepare=None, port=None, has_port=False):
         self.port = port or free_port()
+        words = words if has_port else ["--port", str(self.port), *words]
         environment = {**os.environ, "PYTHONPATH": PACKAGE, "CRACKD": program or find_program()}
-        command = [sys.executable, "-m", "crackd", "serve", "--port", str(self.port), *words]
+        command = [sys.executable, "-m", "crackd", "serve", *words]
         self.process = subprocess.Popen(
             command,
             stdin=subprocess.DEVNULL,
@@ -325,7 +330,8 @@ class Files(InARoom):
 
     @wants_numpy
     def test_rows_of_other_files_go_round_with_their_type(self):
-        for kind, keys, more in [("int64", [-5, 3], -7), ("float64", [-0.5, 2.25], 1e300), ("uint64", [5, 2**64 - 1], 7)]:
+        kinds = [("int64", [-5, 3], -7), ("float64", [-0.5, 2.25], 1e300), ("uint64", [5, 2**64 - 1], 7)]
+        for kind, keys, more in kinds:
             rows = np.zeros(2, [("key", kind), ("payload", "int64")])
             rows["key"], rows["payload"] = keys, [-1, 1]
             np.save(self.room / "rows.npy", rows)
@@ -359,7 +365,8 @@ class Files(InARoom):
     # a program that stands in for crackd, whose answer to a select of rows never ends
     ENDLESS = """#!/usr/bin/env python3
 import sys, time
-answers = {"ping": "pong", "policy auto": "policy auto", "quit": "bye", "select": "rows 3\\n0.0 1 1", "layout 1": "refused 5"}
+answers = {"ping": "pong", "policy auto": "policy auto", "quit": "bye", "layout 1": "refused 5"}
+answers["select"] = "rows 3\\n0.0 1 1"
 answers["layout 0"] = "layout 0 rows 3 column 3 out 0 in 0 cells 3 free 0 pieces 1\\npiece 0 18446744073709551616 3"
 def answer():
     for line in sys.stdin:
@@ -469,6 +476,40 @@ class Words(InARoom):
         served.signal(signal.SIGTERM)
         self.assertEqual(served.process.wait(SECONDS), 1)
         self.assertEqual(self.names(), ["rows.csv"])
+
+
+@wants_program
+class Guide(InARoom):
+    """The commands of the guide's unit of systemd and of its container, with another port and folder."""
+
+    def lines(self, kind):
+        """The lines of the guide's block of this kind."""
+        return re.search(rf"```{kind}\n(.*?)```", GUIDE.read_text(), re.DOTALL)[1].splitlines()
+
+    def run_twice(self, command, begin=lambda: None):
+        """Runs the command twice, as a service that is started again. The rows of the first run are there."""
+        port = free_port()
+        command = [it.replace("4000", str(port)).replace("/data", str(self.room)) for it in command]
+        self.assertEqual(command[1:4], ["-m", "crackd", "serve"])
+        for rows in (1, 2):
+            begin()
+            served = self.start(*command[4:], port=port, has_port=True).listening()
+            with crackd.connect(port=port) as table:
+                table.insert(rows, rows)
+                self.assertEqual(len(table), rows)
+            served.signal(signal.SIGTERM)
+            self.assertEqual(served.end()[0], 0)
+        self.assertEqual((self.room / "rows.csv").read_text(), "key,payload\n1,1\n2,2\n")
+
+    def test_the_unit(self):
+        unit = dict(it.split("=", 1) for it in self.lines("ini") if "=" in it)
+        self.assertEqual((unit["KillMode"], unit["WorkingDirectory"]), ("mixed", "/var/lib/" + unit["StateDirectory"]))
+        before = lambda: subprocess.run(shlex.split(unit["ExecStartPre"]), cwd=self.room, check=True)
+        self.run_twice(shlex.split(unit["ExecStart"]), before)
+
+    def test_the_entry_of_a_container(self):
+        (self.room / "rows.csv").write_text("key,payload\n")
+        self.run_twice(json.loads(self.lines("dockerfile")[0].removeprefix("ENTRYPOINT ")))
 
 
 if __name__ == "__main__":

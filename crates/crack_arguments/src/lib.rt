@@ -69,6 +69,8 @@ pub struct ServeOptions {
     pub drain: u32,
     /// Whether only refusals are written to standard error.
     pub is_quiet: bool,
+    /// Whether standard input and output carry a session before the port is opened, and one after the last connection.
+    pub is_supervised: bool,
     /// Whether the workers keep receipts of their replies, which are compared with partitions' entries at the end.
     pub is_audited: bool,
 }
@@ -165,7 +167,7 @@ const AUDIT: Choice = Choice(
 static BATCH_CHOICES: [Choice; 2] = [WORKERS, AUDIT];
 
 /// The options of a server besides those of its opening.
-static SERVER_CHOICES: [Choice; 9] = [
+static SERVER_CHOICES: [Choice; 10] = [
     Choice(
         "port",
         Value::Required("N"),
@@ -205,6 +207,11 @@ static SERVER_CHOICES: [Choice; 9] = [
         "quiet",
         Value::Flag,
         "Writes only a refusal to standard error",
+    ),
+    Choice(
+        "supervised",
+        Value::Flag,
+        "Has a session on standard input, first and last",
     ),
     AUDIT,
 ];
@@ -502,6 +509,7 @@ fn service_of(alloc: Global, matches: &ArgMatches<'_>) -> Result<ServeOptions, A
         sessions: sessions_of(matches)?,
         idle: idle_of(matches)?,
         is_quiet: matches.get_flag("quiet"),
+        is_supervised: matches.get_flag("supervised"),
         is_audited: matches.get_flag("audit"),
         clients: clients_of(matches)?,
         drain: drain_of(matches)?,

@@ -4,10 +4,12 @@
 pub mod batch;
 mod reporting;
 pub mod service;
+pub mod supervision;
 mod totals;
 
 pub use batch::run_batch;
-pub use service::run_service;
+pub use service::{run_service, run_supervised};
+pub use supervision::serve_supervisor;
 
 /// The least number of entries that are checkpointed between two notices of automatic checkpoints. If a history may
 /// have this many, each checkpoint has its own notice; otherwise one notice covers several, so that not every

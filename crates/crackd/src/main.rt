@@ -10,11 +10,11 @@ use crack_core::Core;
 use crack_csv::{export_csv, load_csv};
 use crack_loop::{ServerEnding, Terms};
 use crack_row::{Policy, Refusal, Upkeep, Watched};
-use crack_server::{run_batch, run_service};
+use crack_server::{run_batch, run_service, run_supervised, serve_supervisor};
 use crack_service::{Host, Notice, REPLY_BYTES};
 use crack_session::serve;
-use crack_table::{MOST_WORKERS, OpenGate, UnnamedTable};
-use crack_witness::Naming;
+use crack_table::{MOST_WORKERS, OpenGate, Table, UnnamedTable};
+use crack_witness::{Naming, Worker};
 use jiff::Timestamp;
 use std::io::{BufWriter, ErrorKind, Write};
 use std::marker::Brand;
@@ -142,6 +142,9 @@ fn serve_named<
     requires { AreNames J.book J.owner table.opened }
 {
     let (table, workers) = table.named::<J>(rt.alloc())?;
+    if service.is_supervised {
+        return serve_under_supervisor(handle, rt, service, table, workers);
+    }
     let mut writer = rt.stdout();
     let host = console_of(rt, service);
     match listen(handle, &host, &mut writer) {
@@ -163,6 +166,68 @@ fn serve_named<
             Err(refusal)
         }
     }
+}
+
+/// Answers the statements of standard input on standard output, and only then listens, and serves as `run_supervised`
+/// does. Refused as that first session, `listen` and `run_supervised` are.
+fn serve_under_supervisor<
+    J: Naming + Send + Sync,
+    H: Threads + Wait + Net<Listener = TcpListener, Stream = TcpStream> + Sync,
+>(
+    handle: &H,
+    rt: &HostRuntime,
+    service: &ServeOptions,
+    table: Table<J>,
+    workers: Vec<Worker<J>>,
+) -> Result<(), Refusal> {
+    let mut writer = rt.stdout();
+    let host = console_of(rt, service);
+    match prepared(handle, rt, service, &table, workers, &host, &mut writer) {
+        Ok((listener, workers)) => run_supervised(
+            handle,
+            rt.alloc(),
+            &listener,
+            table,
+            workers,
+            terms_of(service),
+            &OpenGate,
+            &host,
+            &mut rt.stdin(),
+            &mut writer,
+        ),
+        Err(refusal) => {
+            drop(table);
+            Err(refusal)
+        }
+    }
+}
+
+/// Lets a worker answer the statements of standard input, and then listens. Returns the listener and the workers.
+/// Refused as the session and `listen` are.
+fn prepared<
+    J: Naming + Send + Sync,
+    H: Threads + Wait + Net<Listener = TcpListener, Stream = TcpStream> + Sync,
+    W: Write,
+>(
+    handle: &H,
+    rt: &HostRuntime,
+    service: &ServeOptions,
+    table: &Table<J>,
+    workers: Vec<Worker<J>>,
+    host: &Console<'_>,
+    writer: &mut W,
+) -> Result<(TcpListener, Vec<Worker<J>>), Refusal> {
+    let workers = serve_supervisor(
+        handle,
+        rt.alloc(),
+        table,
+        workers,
+        service.opening.policy,
+        &OpenGate,
+        &mut rt.stdin(),
+        writer,
+    )?;
+    Ok((listen(handle, host, writer)?, workers))
 }
 
 /// The number of workers of a server. By default it is the number of processors, at most `MOST_WORKERS`, or 1 if the

@@ -1,11 +1,11 @@
 """A shell for `crackd serve`: python3 -m crackd shell [--program PATH] [--limit N] [--cells N] [--life N] [--policy
 NAME] [FILE] [SPLIT ..], or python3 -m crackd shell --port N [FILE]
 
-Without a port the shell starts its own server, which ends with it. The rows of a CSV file are loaded first. On a terminal it prompts, explains refusals, reports
-how long each statement took, keeps typed lines in a file, and completes words with Tab; `help` lists the statements.
-Without a terminal it is a filter, which answers line by line, and names the lines that are no statements. The exit status is 1 if there is no server, if the server
-closed the connection, or if a filter had a refused statement or a failed command. It is 2 for a bad command line, and
-otherwise 0.
+Without a port the shell starts its own server, which ends with it. The rows of a CSV file are loaded first. On a
+terminal it prompts, explains refusals, reports how long each statement took, keeps typed lines in a file, and completes
+words with Tab; `help` lists the statements. Without a terminal it is a filter, which answers line by line, and names
+the lines that are no statements. The exit status is 1 if there is no server, if the server closed the connection, or if
+a filter had a refused statement or a failed command. It is 2 for a bad command line, and otherwise 0.
 """
 
 import argparse
@@ -289,7 +289,7 @@ class Shell:
 
 
 def explained_line(line: str, statement: str, is_http: bool) -> str:
-    """The first line of a reply, in words if it is a refusal. A refusal with 1 says what is wrong with the statement."""
+    """The first line of a reply, in words if it is a refusal. That with 1 says what is wrong with the statement."""
     if line != "refused 1":
         return in_words(line)
     fault = "it looks like a line of HTTP, and wasn't sent" if is_http else fault_in(statement)
