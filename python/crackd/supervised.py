@@ -20,10 +20,11 @@ from .base import POLICY, parts_to_load
 from .channel import Channel
 from .client import Client
 from .csvfile import Column, CsvFile, read_columns
+from .decimals import INTEGERS
 from .errors import Disconnected, Error
 from .keys import Keys, quantiles
 from .layout import rows_text
-from .saved import read_rows
+from .saved import read_saved
 from .server import find_program
 
 # the program's options with a value
@@ -170,12 +171,13 @@ class Rows:
     def __init__(self, path: str):
         self.path = path
         if is_csv(path):
-            self.kind = Keys.named("uint64")
+            self.kind, self.payload_type = Keys.named("uint64"), INTEGERS
             file = CsvFile(path, ",", None, "utf-8-sig")
             self.keys, self.payloads = read_columns(file, 0, Column(least=0, most=TOP - 1), 1, Column())
         else:
-            self.kind, rows = read_rows(path)
-            self.keys, self.payloads = rows["key"], rows["payload"]
+            self.kind, self.payload_type, rows, _ = read_saved(path)
+            self.keys = self.kind.of_raw(rows["key"])
+            self.payloads = self.payload_type.exact(rows["payload"])
 
     def splits(self) -> list[int]:
         """Splits that divide the keys evenly."""
@@ -209,7 +211,7 @@ class Supervised:
     def __init__(self, options: Options, program: str):
         self.options, self.program, self.status = options, program, 0
         self.is_serving = self.is_drained = False
-        self.kind = Keys.named("uint64")
+        self.kind, self.payload_type = Keys.named("uint64"), INTEGERS
         self.process: Optional[subprocess.Popen[bytes]] = None
         self.signals = Signals(self.drain)
 
@@ -257,12 +259,12 @@ class Supervised:
 
     def session(self) -> Client:
         """The supervisor's session, before or after those of clients."""
-        return Client(self.control, self.kind, POLICY)
+        return Client(self.control, self.kind, POLICY, self.payload_type)
 
     def before(self, rows: Optional[Rows]) -> None:
         """Loads the rows, and then lets the program open its port."""
         if rows is not None:
-            self.kind = rows.kind
+            self.kind, self.payload_type = rows.kind, rows.payload_type
         with self.session() as table:
             if rows is not None:
                 try:

@@ -258,9 +258,9 @@ class Saves(unittest.TestCase):
             with self.subTest(text[:80]), self.assertRaises(saved.BadSave):
                 saved.read_saved(self.path)
         self.path.write_bytes(whole.getvalue())
-        kind, rows = saved.read_rows(self.path)
+        kind, _, rows, _ = saved.read_saved(self.path)
         self.assertEqual((kind.name, rows.tolist()), ("int64", [(1, 2), (3, 4)]))
-        self.assertRaises(FileNotFoundError, saved.read_rows, self.room / "no")
+        self.assertRaises(FileNotFoundError, saved.read_saved, self.room / "no")
 
     def test_blocks(self):
         kind = Keys.named("uint64")

@@ -171,7 +171,7 @@ class Forms(InARoom):
             ({"rows": 2, "keys": "text", "crc32": 0}, "doesn't say what its rows are: TypeError"),
             ({"rows": None, "keys": "int64", "crc32": 0}, "can't be read"),
             ({"rows": 2, "keys": "int64", "crc32": 0}, "its rows have changed since they were saved"),
-            ({"rows": 2, "keys": "int64", "crc32": 0, "zone": "UTC", "x": 1}, "doesn't know", "zone, x"),
+            ({"rows": 2, "keys": "int64", "crc32": 0, "sort": "UTC", "x": 1}, "doesn't know", "sort, x"),
             ([], "is no dict"),
             (5, "is no dict"),
         ]:
@@ -190,21 +190,21 @@ class Forms(InARoom):
 
     def test_what_a_save_says_about_its_rows(self):
         """Names that aren't known are refused, those that aren't there have a default, and a load keeps them."""
-        with crackd.Table.from_arrays([5, 6]) as table, mock.patch.dict(saved.FIELDS, {"zone": None, "places": 0}):
+        with crackd.Table.from_arrays([5, 6]) as table, mock.patch.dict(saved.FIELDS, {"source": None, "places": 0}):
             table.save(self.path)
             with crackd.Table.load(self.path) as plain:
-                self.assertEqual(plain._told, {"zone": None, "places": 0})
-                plain._told = {"zone": "Europe/Berlin", "places": 0}
+                self.assertEqual(plain._told, {"source": None, "places": 0})
+                plain._told = {"source": "a file", "places": 0}
                 plain.save(self.path)
             found = saved.read_saved(self.path)
-            self.assertEqual(found.fields, {"zone": "Europe/Berlin", "places": 0})
+            self.assertEqual(found.told, {"source": "a file", "places": 0})
             with crackd.Table.load(self.path) as loaded:
                 loaded.save(self.path)
-                self.assertEqual(saved.read_saved(self.path).fields, found.fields)
+                self.assertEqual(saved.read_saved(self.path).told, found.told)
             np.save(self.path.with_name("old.npy"), np.load(self.path))
             with crackd.Table.load(self.path.with_name("old.npy")) as old:
-                self.assertEqual(old._told, {"zone": None, "places": 0})
-        said = "doesn't know what it says of its rows: zone, places"
+                self.assertEqual(old._told, {"source": None, "places": 0})
+        said = "doesn't know what it says of its rows: source, places"
         self.assertRaisesRegex(crackd.BadSave, said, crackd.Table.load, self.path)
 
     def test_the_checksum_is_that_of_zlib_for_any_size(self):
@@ -570,11 +570,11 @@ class Folders(InARoom):
         files = self.save()
         manifest = json.loads((self.room / "manifest.json").read_text())
         del manifest["crc32"]
-        folders.write_manifest(self.room, {**manifest, "zone": "UTC"})
-        with self.assertRaisesRegex(crackd.BadSave, "manifest.json can't be read: this version doesn't know.*: zone"):
+        folders.write_manifest(self.room, {**manifest, "source": "UTC"})
+        with self.assertRaisesRegex(crackd.BadSave, "manifest.json can't be read: this version doesn't know.*: source"):
             folders.read_manifest(self.room / "manifest.json")
-        with mock.patch.dict(saved.FIELDS, {"zone": None}):
-            self.assertEqual(folders.read_manifest(self.room / "manifest.json")["zone"], "UTC")
+        with mock.patch.dict(saved.FIELDS, {"source": None}):
+            self.assertEqual(folders.read_manifest(self.room / "manifest.json")["source"], "UTC")
         self.expect(*files)
 
     def test_modes(self):
@@ -637,14 +637,14 @@ class AtOnceOnACluster(InARoom):
 
     def test_what_a_save_says_about_its_rows(self):
         folder, client = self.room / "saved", SHARED["client"]
-        with mock.patch.dict(saved.FIELDS, {"zone": None}):
+        with mock.patch.dict(saved.FIELDS, {"source": None}):
             with cluster.Table(client) as table:
-                table._told = {"zone": "UTC"}
+                table._told = {"source": "UTC"}
                 table.insert(1, 2)
                 manifest = table.save(folder)
-            self.assertEqual(manifest["zone"], "UTC")
-            self.assertEqual(saved.read_saved(folder / manifest["files"][0]).fields, {"zone": "UTC"})
-        self.assertRaisesRegex(crackd.BadSave, "zone", cluster.Table.restore, client, folder)
+            self.assertEqual(manifest["source"], "UTC")
+            self.assertEqual(saved.read_saved(folder / manifest["files"][0]).told, {"source": "UTC"})
+        self.assertRaisesRegex(crackd.BadSave, "source", cluster.Table.restore, client, folder)
 
     def test_no_folder(self):
         with cluster.Table(SHARED["client"]) as table:
