@@ -59,10 +59,10 @@ LIMITS = [
     ("python/crackd/table.py", "ROWS_A_SHARD", ["one for each {} rows, at most one for each"]),
     ("python/crackd/table.py", "MOST_BY_DEFAULT", ["processor and {}, and each shard"]),
     ("python/crackd/local.py", "HISTORY", ["a partition ({} by default)"]),
-    ("Makefile", "RUN_SECONDS", ["after {} seconds of compiling", "`make run` took {} seconds from nothing"]),
-    ("Makefile", "TEST_MINUTES", ["package and of the crates: {} minutes", "from nothing, `make test` {} minutes"]),
-    ("Makefile", "PROVE_MINUTES", ["of the unproved ones: {} minutes", "`make prove` {} after that"]),
-    ("Makefile", "EDITS_MINUTES", ["`make edits` {} after that", "which the prover must refuse: {} minutes"]),
+    ("Makefile", "RUN_SECONDS", ["after {} seconds of compiling"]),
+    ("Makefile", "TEST_MINUTES", ["package and of the crates: {} minutes"]),
+    ("Makefile", "PROVE_MINUTES", ["of the unproved ones: {} minutes"]),
+    ("Makefile", "EDITS_MINUTES", ["which the prover must refuse: {} minutes"]),
 ]
 
 # the tables of docs/BENCHMARKS.md, by the first cells of their heads
