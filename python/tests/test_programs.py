@@ -129,6 +129,20 @@ class Programs(unittest.TestCase):
             self.assertEqual(server.find_program(), "/from/the/environment")
             self.assertEqual(server.find_program("/given"), "/given")
 
+    def test_its_version_is_what_it_says_on_one_line(self):
+        path = pathlib.Path(self.program(""))
+        for text, wanted in [
+            ("echo 'crackd 0.1.0'", "crackd 0.1.0"),
+            ("test $1 = --version && echo 'crackd 0.1.0 (unproved)'", "crackd 0.1.0 (unproved)"),
+            ("echo 'crackd 0.1.0'; exit 3", "crackd"),
+            ("echo another 1", "crackd"),
+            ("echo crackd 1; echo crackd 2", "crackd"),
+            ("true", "crackd"),
+        ]:
+            path.write_text(f"#!/bin/sh\n{text}\n", encoding="ascii")
+            self.assertEqual(server.version_of(str(path)), wanted)
+        self.assertEqual(server.version_of(str(path.with_name("missing"))), "crackd")
+
     def test_the_command_of_the_package_is_not_taken_for_it(self):
         self.program("")
         folders = [self.room / it for it in ("scripts", "missing", "programs")]
