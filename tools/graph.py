@@ -13,7 +13,6 @@ import subprocess
 import time
 
 import crates
-import kept
 
 SECONDS = pathlib.Path(__file__).resolve().with_name("seconds")
 # the seconds of a crate that no run has measured, and the memory for each crate that is proved, in bytes
@@ -140,8 +139,3 @@ class Graph:
                     self.begin(pool)
                     self.say(f"{told}; {self.progress()}\n")
         return len(self.done) == len(self.wanted)
-
-
-def prove(wanted, top, say):
-    """Proves the crates of a copy that aren't kept. Returns whether all are proved."""
-    return Graph(wanted, top, say, kept.names(top)).run()

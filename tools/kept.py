@@ -1,4 +1,5 @@
-"""Which crates `rt ci` would find proved by an earlier run on this machine.
+"""Which crates `rt ci` would find proved by an earlier run on this machine, and their libraries: kept.py TOP NAME puts
+those below a crate into a copy, and ends with 0 if all are kept.
 
 `rt ci` keeps what it proved beside the toolchain, under a sum of all that the proof read. The code of `rt` computes
 that sum here too, so that `rt` needn't be started for a crate that is kept. Where that code has another form, nothing
@@ -51,6 +52,18 @@ def found(rt, top):
     return names
 
 
+def give(rt, top, name):
+    """Puts the kept libraries below a crate into a copy, by the code of `rt`. Returns whether all are there."""
+    rt.Crate.allowed = rt.handles_of(top)
+    every = rt.crates_of(top)
+    store, [crate] = rt.Kept(every), [it for it in every if it.name == name]
+    for it in (it for it in every if it in crate.below()):
+        if not store.give(it, False, store.key(it)):
+            return False
+        store.is_built(it)
+    return True
+
+
 def names(top):
     """The names of the crates in a copy, as `prove.copy` makes it, that an earlier run proved. Empty if that can't be
     read from `rt`."""
@@ -62,3 +75,10 @@ def names(top):
         return set()
     finally:
         sys.dont_write_bytecode = written
+
+
+if __name__ == "__main__":
+    try:
+        sys.exit(0 if give(load(), *sys.argv[1:]) else 1)
+    except Exception:  # whatever the code of another toolchain raises
+        sys.exit(1)

@@ -18,9 +18,11 @@ import shutil
 import subprocess
 import sys
 import tempfile
+import time
 
 import crates
 import graph
+import kept
 from crates import TOP
 
 
@@ -55,19 +57,35 @@ def run(words, folder, say=lambda line: None):
     return started.returncode, lines
 
 
-def build_static(crate, top):
+def static_library(crate, top):
+    """Where a static library of a copy is built: beside the copy, since `rt ci` clears what is in it."""
+    return top.with_name(crate.library.name)
+
+
+def build_static(crate, top, priority=0):
     """Proves a static library in a copy over what was built there of the crates below it, and builds it."""
     library = lambda it: top / "crates" / it.name / "out" / "rlib" / f"{it.name}.rlib"
     words = [*crates.rattle_words("build", crate, library), "--jobs", len(os.sched_getaffinity(0)), "--backend", "llvm"]
-    words += ["--toolchain", crates.kit("toolchain"), "-o", f"out/{crate.library.name}"]
-    return run(words, top / "crates" / crate.name)
+    words += ["--toolchain", crates.kit("toolchain"), "-o", static_library(crate, top)]
+    return run(["nice", "-n", priority, *words], top / "crates" / crate.name)
+
+
+def prove_crate(crate, top, priority):
+    """As `graph.run_ci`, and then builds a static library, while other crates are proved. What can't be built yet is
+    built at the end."""
+    status, output, seconds = graph.run_ci(crate, top, priority)
+    if crate.is_static and not status and not run([sys.executable, kept.__file__, top, crate.name], top)[0]:
+        began = time.monotonic()
+        build_static(crate, top, priority)
+        seconds += time.monotonic() - began
+    return status, output, seconds
 
 
 def keep(top, crate, told):
     """Moves what was built of a crate in a copy back, in place of what is here, and writes the sum of its text down."""
     out = top / "crates" / crate.name / "out"
     made = {out / it: crate.out / it for it in (crate.name, f"{crate.name}_tests")}
-    made[out / ("" if crate.is_static else "rlib") / crate.library.name] = crate.library
+    made[static_library(crate, top) if crate.is_static else out / "rlib" / crate.library.name] = crate.library
     crate.stamp.parent.mkdir(parents=True, exist_ok=True)
     for source, target in made.items():
         if target.is_dir():
@@ -85,15 +103,18 @@ def prove(wanted, tell, say, is_gate=False):
     with tempfile.TemporaryDirectory(prefix="crackd-prove-") as room, open(TOP / "crates.txt") as lock:
         top = pathlib.Path(room) / "crackd"
         sums = copy(top, wanted)
-        if not graph.prove(wanted, top, tell) and not is_gate:
+        if not graph.Graph(wanted, top, tell, kept.names(top), prove_crate).run() and not is_gate:
             return False, []
         status, lines = run(["rt", "ci"], top, say)
-        for crate in (it for it in wanted if it.is_static and status == 0):
-            status, lines = build_static(crate, top)
+        made = [it for it in wanted if it.is_static and is_current(it)]
+        for crate in (it for it in wanted if it.is_static and it not in made and status == 0):
+            if not static_library(crate, top).exists():
+                status, lines = build_static(crate, top)
             say("".join(lines) if status else f"rt: {crate.name} is built\n")
         fcntl.flock(lock, fcntl.LOCK_EX)
         for crate in wanted if is_gate or status == 0 else ():
-            keep(top, crate, sums.get(crate.name, ""))
+            if crate not in made:
+                keep(top, crate, sums.get(crate.name, ""))
     return status == 0, lines
 
 

@@ -312,6 +312,24 @@ class Proving(unittest.TestCase):
         self.assertEqual(left, tests | {"crack_failing", "crack_bench"})
         self.assertEqual({it.name for it in crates.with_below(["crackd", "crackd_c"])}, set(crates.listed()) - left)
 
+    def test_a_static_library_is_built_after_its_proof_if_those_below_it_are_kept(self):
+        for name, are_kept, status, wanted in [
+            ("crackd_c", True, 0, ["kept.py", "nice"]),
+            ("crackd_c", False, 0, ["kept.py"]),
+            ("crackd_c", True, 1, []),
+            ("crack_row", True, 0, []),
+        ]:
+            ran = []
+
+            def run(words, folder):
+                ran.append(pathlib.Path(words[1 if words[0] == sys.executable else 0]).name)
+                return (0 if are_kept else 1), []
+
+            ended = mock.patch.object(graph, "run_ci", lambda *_: (status, "said", 2.0))
+            with ended, mock.patch.object(prove, "run", run):
+                found = prove.prove_crate(crates.listed()[name], pathlib.Path("/none/crackd"), 0)
+            self.assertEqual((found[:2], ran), ((status, "said"), wanted))
+
     def test_with_another_toolchain_nothing_is_known_to_be_kept(self):
         top = folder_with(self, {"bin/rt": "import os\n"})
         with mock.patch.object(crates, "kit", lambda path="": top / path):
