@@ -244,7 +244,8 @@ class Loads(unittest.TestCase):
         for row in ("0.1", "0.2"):
             rows, answer = self.table("insert 3 -3")
             stubborn = lambda line: ["refused 10"] if line == f"delete {row}" else answer(line)
-            with self.assertRaisesRegex(texts.Fault, "^record 4: refused 9: .*; 1 row of it couldn't be deleted: refused 10: "):
+            said = "^record 4: refused 9: .*; 1 row of it couldn't be deleted: refused 10: "
+            with self.assertRaisesRegex(texts.Fault, said):
                 self.load(4, stubborn)
             self.assertEqual(list(rows), [row])
 
