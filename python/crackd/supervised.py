@@ -239,7 +239,7 @@ class Supervised:
             self.after()
         except Disconnected:
             return self.ended()
-        return self.ended() or self.status
+        return self.ended()
 
     def failed(self, what: str, error: object) -> int:
         """Says what wasn't done, and why. Returns the status 1."""

@@ -9,6 +9,7 @@ import re
 import time
 from typing import IO, Any, Callable, Iterable, Iterator, Optional, Sequence, Union
 
+from ..arrays import joined_text
 from ..base import parts_to_load
 from ..channel import Channel
 from ..errors import Disconnected
@@ -136,8 +137,7 @@ class Columns:
     def statements(self, begin: int) -> bytes:
         """The inserts of the next rows, from this one on."""
         end = begin + ROWS_AT_ONCE
-        numbers = zip(self.keys[begin:end], self.payloads[begin:end])
-        return "".join(["insert %d %d\n" % it for it in numbers]).encode("ascii")
+        return joined_text("insert %d %d\n", self.keys[begin:end], self.payloads[begin:end])
 
     def splits(self) -> list[int]:
         """Splits that divide the keys evenly."""
@@ -250,26 +250,30 @@ class Session:
 
     def take_back(self, loaded: Loaded) -> str:
         """Deletes the rows of a load. Returns what is left of them, in words."""
-        rows, refusal, tries = list(zip(loaded.parts, loaded.serials)), "", 0
+        rows: Sequence[int] = range(loaded.placed)
+        refusal, tries = "", 0
         while rows and tries < 2:
-            refused = self.deleted(rows)
+            refused = self.deleted(loaded, rows)
             # after a full history the same deletes are tried again
             tries = tries + 1 if len(refused) == len(rows) else 0
-            rows, refusal = [row for row, _ in refused], refused[0][1] if refused else ""
+            rows, refusal = list(refused), next(iter(refused.values()), "")
         return f"{rows_text(len(rows))} of it couldn't be deleted: {in_words(refusal)}" if rows else NOTHING_LOADED
 
-    def deleted(self, rows: list[tuple[int, int]]) -> list[tuple[tuple[int, int], str]]:
-        """Deletes rows. Returns those whose deletion was refused, with the refusal. Makes room in full histories."""
-        refused = []
+    def deleted(self, loaded: Loaded, rows: Sequence[int]) -> dict[int, str]:
+        """Deletes these rows of a load. Returns the refusals of those that weren't deleted. Makes room in full
+        histories."""
+        refused: dict[int, str] = {}
         for at in range(0, len(rows), ROWS_UNANSWERED):
             some = rows[at : at + ROWS_UNANSWERED]
-            self.channel.send("".join(["delete %d.%d\n" % it for it in some]).encode("ascii"))
+            self.channel.send(
+                joined_text("delete %d.%d\n", [loaded.parts[it] for it in some], [loaded.serials[it] for it in some])
+            )
             lines: list[str] = []
             while self.channel.unsent or len(lines) < len(some):
                 self.channel.step()
                 lines += self.channel.lines_given()
-            refused += [(row, line) for row, line in zip(some, lines) if line.startswith("refused")]
-        for part in sorted({part for (part, _), line in refused if line.startswith("refused 6 ")}):
+            refused |= {row: line for row, line in zip(some, lines) if line.startswith("refused")}
+        for part in sorted({loaded.parts[row] for row, line in refused.items() if line.startswith("refused 6 ")}):
             self.ask(f"checkpoint {part}")
         return refused
 
