@@ -135,9 +135,9 @@ class Sending(threading.Thread):
                 self.sent += self.socket.send(given[self.sent : self.sent + 65536])
 
     def taken(self) -> list[str]:
-        """The lines that the connection took, the last one whole or not, once no more is sent."""
+        """The whole lines that the connection took, once no more is sent: the beginning of another isn't carried out."""
         self.join()
-        return self.text[: self.sent].split("\n")
+        return self.text[: self.sent].split("\n")[:-1]
 
 
 def any_statement(guest: Guest) -> str:
@@ -187,7 +187,8 @@ def half_a_line(guest: Guest) -> None:
     last = last[: guest.numbers.randrange(1, len(last))]
     with Client(guest.port) as it:
         how = guest.numbers.choice(["waits", "closes", "resets"])
-        guest.leave(it, Sending(it, statements, last), [*statements, last], 0, how)
+        # what it sent of the last line may be a statement, and is no statement without its end
+        guest.leave(it, Sending(it, statements, last), [*statements, "nonsense"], 0, how)
 
 
 def slow(guest: Guest) -> None:

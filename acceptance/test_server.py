@@ -176,7 +176,7 @@ class Crowd:
             it.send("count 1 1\n" * 1_000 + "count 1 1")
             it.sends_no_more()
         for it in self.half_closed:
-            expect("a half-closed client's counts", "count 0\n" * 1_001, it.lines.read())
+            expect("a half-closed client's counts", "count 0\n" * 1_000 + "refused 1\n", it.lines.read())
 
     def be_honest(self) -> list[int]:
         """Has the honest clients work, many at a time, the late ones last. Returns the serials of all their rows."""
@@ -190,7 +190,7 @@ class Crowd:
 
     def totals(self) -> typing.Iterator[int]:
         """The totals that the replies come to."""
-        reads = len(self.slow) + 1_001 * len(self.half_closed)
+        reads = len(self.slow) + 1_000 * len(self.half_closed)
         return (of * len(self.honest + self.late) + more for of, more in zip(WORKED, (reads, 0, 0, 0)))
 
 

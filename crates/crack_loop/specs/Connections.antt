@@ -1,5 +1,5 @@
 -- A connection of a server without its stream: its state, what it does next, and what feeding its session does.
-use Rattle.std.specs.Prelude.{◌≡◌, ℕ, ◌-◌, ◌≤◌, Bool, true, false, List, [], ◌∷◌, length, take, drop, Option, None, if◌then◌else◌, IsTrue}
+use Rattle.std.specs.Prelude.{◌≡◌, ℕ, ◌-◌, ◌≤◌, ◌⊎◌, ◌↔◌, Bool, true, false, List, [], ◌∷◌, length, take, drop, Option, None, if◌then◌else◌, IsTrue, IsSome}
 use Rattle.crack_row.specs.declared.Bound.{Bound}
 use Rattle.crack_row.specs.declared.command.Policy.{Policy}
 use Rattle.crack_row.specs.declared.refusal.Refusal.{Refusal}
@@ -7,20 +7,23 @@ use Rattle.crack_row.specs.declared.refusal.Refusal.TheVariants.{ReadFault, Writ
 use Rattle.crack_plain.specs.Plain.{PlainView}
 use Rattle.crack_core.specs.Steps.{Bounds}
 use Rattle.crack_session.specs.Calls.{Call}
-use Rattle.crack_session.specs.Feeding.{SessionState, Feeds, StoppedFor}
+use Rattle.crack_session.specs.Feeding.{SessionState, Feeds, StoppedFor, BreaksOff}
+use Rattle.crack_session.specs.Readings.{reading_of}
 use Rattle.crack_session.specs.declared.feeding.Why.{Why}
 use Rattle.crack_session.specs.declared.feeding.Why.TheVariants.{Wants, Full, Quit, Refused as HttpRefused}
 use Rattle.crack_loop.specs.declared.connection.Next.{Next}
 use Rattle.crack_loop.specs.declared.connection.Next.TheVariants.{Write, Answer, Read, Close}
 
 -- what contracts see of a connection: its session; the bytes that were received and aren't fed to it yet; the texts
--- that it appended and that aren't written yet; why it stopped taking bytes; and whether its input has ended
+-- that it appended and that aren't written yet; why it stopped taking bytes; whether its input has ended; and whether it
+-- ended in an unfinished line that isn't blank
 pub record ConnectionState : Type 0 where
   pub session : SessionState
   pub received : List ℕ
   pub unsent : List ℕ
   pub stopped : Why
   pub has_ended : Bool
+  pub broke_off : Bool
 
 -- the state of a new session with this policy, which has answered nothing
 abbrev pub new_session : Policy → SessionState
@@ -75,3 +78,19 @@ pub record Answers {D : Type 0} (bounds : D → Bounds) (splits : D → List Bou
   pub spares : left_for_later new.stopped (drop taken bytes) ≡ [] → IsTrue is_kept
   pub unsent : new.unsent ≡ old.unsent
   pub has_ended : new.has_ended ≡ old.has_ended
+  pub broke_off : new.broke_off ≡ old.broke_off
+
+-- a session that wants more bytes has appended all texts, and no line has ended it
+abbrev pub GoesOn : Why → SessionState → Type 0
+GoesOn why s = why ≡ Wants → (s.unwritten ≡ []) × (s.ending ≡ None)
+
+-- The input of a connection ends, and its session's input breaks off (`BreaksOff`): an unfinished line isn't carried
+-- out, but answered as a line that is no statement, unless it is blank. Nothing else changes.
+pub record Ends (old : ConnectionState) (out out' : List ℕ) (new : ConnectionState) : Type 0 where
+  pub breaks : BreaksOff old.session out out' new.session
+  pub broke_off : IsTrue new.broke_off ↔ IsSome (reading_of old.session.begun)
+  pub same : new ≡ record old { session = new.session; has_ended = true; broke_off = new.broke_off }
+
+-- a line of the client has no line feed and isn't blank, now or when the input ended
+abbrev pub HasUnfinished : ConnectionState → Type 0
+HasUnfinished c = IsTrue c.broke_off ⊎ IsSome (reading_of c.session.begun)

@@ -1,5 +1,6 @@
 //! A connection with its stream, and its turns.
 ghost use Rattle.std.specs.Prelude.{◌≡◌, ◌≤◌, []};
+ghost use Rattle.crack_session.specs.declared.feeding.Why.TheVariants.{Wants};
 
 use crate::connection::{Connection, Next};
 use crate::{READ_BYTES, Room};
@@ -131,6 +132,7 @@ impl Client {
     ) -> After
         requires received { self.old.connection.received ≡ [] }
         requires unsent { self.old.connection.unsent ≡ [] }
+        requires wants { self.old.connection.stopped ≡ Wants }
     {
         match (&self.stream).read(&mut room.input) {
             Ok(count) => {
@@ -151,7 +153,7 @@ impl Client {
         }
     }
 
-    /// Answers the first `count` bytes that were just read, or the end of the input if `count` is 0, and writes.
+    /// Answers the first `count` bytes that were just read, or takes the end of the input if `count` is 0, and writes.
     /// Returns what the connection does next: it is cut off if the write fails, or if no memory is found; otherwise it
     /// takes another turn.
     fn answer<D: Desk>(
@@ -165,15 +167,15 @@ impl Client {
         requires count { count ≤ READ_BYTES }
         requires received { self.old.connection.received ≡ [] }
         requires unsent { self.old.connection.unsent ≡ [] }
+        requires wants { self.old.connection.stopped ≡ Wants }
     {
         room.out.clear();
-        let kept = if count == 0 {
-            self.connection.end(alloc, desk, &mut room.out)
-        } else {
-            self.connection
-                .receive(alloc, desk, &room.input[..count], &mut room.out)
-        };
-        match kept {
+        if count == 0 {
+            self.connection.end(&mut room.out);
+            return self.send(alloc, room, now);
+        }
+        let bytes = &room.input[..count];
+        match self.connection.receive(alloc, desk, bytes, &mut room.out) {
             Ok(()) => self.send(alloc, room, now),
             Err(_) => After::CutOff(Refusal::OutOfMemory),
         }

@@ -2,7 +2,7 @@
 ghost use Rattle.std.specs.Prelude.{◌≡◌, ◌≢◌, ◌≤◌, ◌+◌, ◌↔◌, [], ◌∷◌, false, true, length, drop};
 ghost use Rattle.std.specs.Prelude.{is_ok, IsTrue, IsOk, OnOk, OnErr};
 ghost use Rattle.crack_session.specs.declared.feeding.Why.TheVariants.{Wants};
-ghost use Rattle.crack_loop.specs.Connections.{Answers, fault_of, new_session, next_of};
+ghost use Rattle.crack_loop.specs.Connections.{Answers, Ends, HasUnfinished, fault_of, new_session, next_of};
 
 use crate::backlog::Backlog;
 use crack_row::{Policy, Refusal};
@@ -19,6 +19,7 @@ pub struct Connection {
     unsent: Backlog,
     stopped: Why,
     has_ended: bool,
+    broke_off: bool,
 }
 
 /// Whether at least `time` has passed from `since` to `now`, all in one unit. False if `now` is before `since`. O(1).
@@ -42,7 +43,7 @@ pub enum Next {
 }
 
 impl Model for Connection {
-    ghost use Rattle.crack_loop.specs.Connections.{ConnectionState};
+    ghost use Rattle.crack_loop.specs.Connections.{ConnectionState, GoesOn};
 
     ghost Value = { ConnectionState };
 
@@ -52,7 +53,10 @@ impl Model for Connection {
       unsent = c.unsent;
       stopped = c.stopped;
       has_ended = c.has_ended;
+      broke_off = c.broke_off;
     } };
+
+    ghost invariant = { λ c. GoesOn c.stopped c.session };
 }
 
 impl Connection {
@@ -63,6 +67,7 @@ impl Connection {
         ensures unsent { result.unsent ≡ [] }
         ensures stopped { result.stopped ≡ Wants }
         ensures has_ended { result.has_ended ≡ false }
+        ensures broke_off { result.broke_off ≡ false }
     {
         Connection {
             session: Session::new(policy),
@@ -70,6 +75,7 @@ impl Connection {
             unsent: Backlog::new(alloc),
             stopped: Why::Wants,
             has_ended: false,
+            broke_off: false,
         }
     }
 
@@ -79,6 +85,7 @@ impl Connection {
         ensures next { result ≡ next_of self.now }
         ensures written { result ≢ Next.Write → self.now.unsent ≡ [] }
         ensures answered { result ≡ Next.Read → self.now.received ≡ [] }
+        ensures wants { result ≡ Next.Read → self.now.stopped ≡ Wants }
     {
         if !self.unsent.is_empty() {
             return Next::Write;
@@ -136,20 +143,25 @@ impl Connection {
         }
     }
 
-    /// Takes the end of the input: an unfinished line is answered as if a line feed followed, and the connection
-    /// closes once all texts are written. Refused if the output is full and no memory is found for the line feed.
-    pub fn end<D: Desk>(
-        &mut self,
-        alloc: Global,
-        desk: &mut D,
-        out: &mut Output,
-    ) -> Result<(), AllocError>
-        requires { self.old.received ≡ [] }
-        ensures { Answers D.bounds D.splits D.tables D.leads (record self.old { has_ended = true }) (10 ∷ []) desk.old
-            desk.new out.old.items out.new.items (is_ok result) self.new }
+    /// Takes the end of the input, at which the client is gone. An unfinished line isn't carried out: unless it is
+    /// blank, it is answered as a line that isn't a statement (`Session::break_off`). The connection closes once all
+    /// texts are written. O(1), no memory.
+    pub fn end(&mut self, out: &mut Output)
+        requires wants { self.old.stopped ≡ Wants }
+        requires empty { out.old.items ≡ [] }
+        ensures { Ends self.old out.old.items out.new.items self.new }
     {
         self.has_ended = true;
-        self.receive(alloc, desk, b"\n", out)
+        self.broke_off = self.session.has_unfinished();
+        self.session.break_off(out);
+    }
+
+    /// Whether the client's last line wasn't carried out because it has no line feed: it is unfinished, or it was
+    /// when the input ended. False if that line is blank. O(1).
+    pub fn has_unfinished(&self) -> bool
+        ensures { IsTrue result ↔ HasUnfinished self.now }
+    {
+        self.broke_off || self.session.has_unfinished()
     }
 
     /// The texts that aren't written yet.

@@ -176,7 +176,7 @@ impl Crowd {
             Interest::READABLE | Interest::WRITABLE,
         );
         if watched.is_err() {
-            service.end(address, Some((Refusal::ReadFault, Cause::Fault)));
+            service.end(address, Some((Refusal::ReadFault, Cause::Fault)), false);
             return;
         }
         let client = Client {
@@ -189,7 +189,7 @@ impl Crowd {
         };
         let most = self.clients.len().saturating_add(1);
         if self.queue.reserve(most).is_err() || self.clients.insert(client).is_err() {
-            service.end(address, Some((Refusal::OutOfMemory, Cause::Fault)));
+            service.end(address, Some((Refusal::OutOfMemory, Cause::Fault)), false);
             return;
         }
         self.enqueue(service, key, false);
@@ -283,21 +283,22 @@ impl Crowd {
     ) {
         if let Some(client) = self.clients.try_remove(key) {
             self.may_arrive = true;
-            service.end(client.address, cut_off);
+            service.end(client.address, cut_off, client.connection.has_unfinished());
             drop(client);
         }
     }
 
     /// Does nothing until `LOOK_MILLIS` have passed since the last call that did something. Then cuts off the
     /// connections that have waited for their clients for `Terms::idle` seconds, if that is set, reports clients that
-    /// were turned away, failed accepts and the number of answered statements, and allows a failed accept to be tried
-    /// again.
+    /// were turned away, failed accepts and the number of answered statements, lets the host catch up with its reports,
+    /// and allows a failed accept to be tried again.
     pub(crate) fn look<Rt: Wait, H: Host>(&mut self, service: &ServerState<'_, Rt, H>) {
         if !has_passed(LOOK_MILLIS, self.looked, self.now) {
             return;
         }
         self.looked = self.now;
         self.may_arrive = true;
+        service.host.catch_up();
         service.report_refused(self.now, false);
         self.report_pace(service);
         if let Some(idle) = service.terms.idle {

@@ -88,14 +88,20 @@ impl<'a, Rt: Wait, H: Host> ServerState<'a, Rt, H> {
     }
 
     /// Counts a connection of the client at this address that has ended. If it was cut off, `cut_off` has the refusal
-    /// and the cause, and the host is notified.
-    pub(crate) fn end(&self, client: SocketAddr, cut_off: Option<(Refusal, Cause)>) {
+    /// and the cause, and the host is notified; `has_unfinished` says that the client's last line wasn't carried out.
+    pub(crate) fn end(
+        &self,
+        client: SocketAddr,
+        cut_off: Option<(Refusal, Cause)>,
+        has_unfinished: bool,
+    ) {
         self.admission.end(self.rt, cut_off.is_some());
         if let Some((refusal, cause)) = cut_off {
             self.host.note(Notice::CutOff {
                 client,
                 refusal,
                 cause,
+                has_unfinished,
             });
         }
     }

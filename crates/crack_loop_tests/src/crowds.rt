@@ -47,7 +47,7 @@ fn interleaved<N: Net<Listener = TcpListener, Stream = TcpStream>>(
     'clients: for _ in 0..CLIENTS {
         clients.push(connect(rt, port)?)?;
     }
-    const PIECES: [&[u8]; 5] = [b"ins", b"ert 7 1\nin", b"sert 8 ", b"2\n", b"count 10 20"];
+    const PIECES: [&[u8]; 5] = [b"ins", b"ert 7 1\nin", b"sert 8 ", b"2\n", b"count 10 20\n"];
     'pieces: for place in 0..PIECES.len() {
         send_all(&clients, PIECES[place])?;
     }
@@ -72,18 +72,35 @@ fn three_hundred_clients_are_answered_by_one_thread(rt: HostRuntime) {
     assert!(rt; rows == Ok(2 * CLIENTS as u64));
 }
 
+/// What a client sends before it ends its sending, its replies, and how many rows there are then.
+const ENDINGS: [(&[u8], &[u8], u64); 7] = [
+    // a line without its line feed isn't carried out, even if it is a statement
+    (b"insert 1 1\ninsert 2 2", b"row 0.0\nrefused 1\n", 1),
+    (b"insert 1 1\ndelete 0.0", b"row 0.0\nrefused 1\n", 1),
+    (b"quit", b"refused 1\n", 0),
+    // a blank one has no reply
+    (b"insert 1 1\n  \r", b"row 0.0\n", 1),
+    (b"insert 1 1\n", b"row 0.0\n", 1),
+    // nor has one after a line that ends the session
+    (b"insert 1 1\nquit\ninsert 2 2", b"row 0.0\nbye\n", 1),
+    (b"GET / HTTP/1.1\ninsert 2 2", b"refused 1\n", 0),
+];
+
 #[test]
-fn an_unfinished_line_is_answered_at_the_end_of_input(rt: HostRuntime) {
+fn an_unfinished_line_is_refused_at_the_end_of_input(rt: HostRuntime) {
     let alloc: Global = rt.alloc();
-    let (listener, port) = listening(&rt);
-    let terms = terms(ServerEnding::AfterSessions(1));
-    let mut input: &[u8] = b"";
-    let (rows, got) = thread::join(
-        &rt,
-        || rows_after(&rt, alloc, &listener, terms, &mut input),
-        || answers(&rt, alloc, port, b"insert 1 1\ncount 0 5"),
-    );
-    let got = got.ok().expect(&rt, "answers");
-    assert!(rt; got.as_slice() == b"row 0.0\ncount 1\n".as_slice());
-    assert!(rt; rows == Ok(1));
+    'endings: for place in 0..ENDINGS.len() {
+        let (sent, wanted, held) = ENDINGS[place];
+        let (listener, port) = listening(&rt);
+        let terms = terms(ServerEnding::AfterSessions(1));
+        let mut input: &[u8] = b"";
+        let (rows, got) = thread::join(
+            &rt,
+            || rows_after(&rt, alloc, &listener, terms, &mut input),
+            || answers(&rt, alloc, port, sent),
+        );
+        let got = got.ok().expect(&rt, "answers");
+        assert!(rt; got.as_slice() == wanted, "ending {place}");
+        assert!(rt; rows == Ok(held), "ending {place}");
+    }
 }

@@ -9,7 +9,7 @@ ghost use Rattle.crack_witness.specs.Witnesses.{AreNames};
 
 use crate::totals::totals_of;
 use crack_row::{Bound, Limits, Policy, Refusal, Watched};
-use crack_service::{divide, read_input};
+use crack_service::{Complaint, divide, read_input};
 use crack_session::{Desk, serve};
 use crack_table::{Gate, Table, UnnamedTable};
 use crack_witness::{Naming, Worker};
@@ -43,8 +43,8 @@ struct EndedBatch<J: Naming> {
 /// `writer` gets, for each worker `w`, the line `worker w` and the output of its session, and finally the totals. The
 /// workers are gathered by counts, and with an audit also by receipts, which take memory for each command until the
 /// workers are gathered. Refused, in this order: as `UnnamedTable::open` is; with `ReadFault` if the reader fails or
-/// has more than `MOST_INPUT_BYTES`; with `BadStatement` if a line has no number; as the first session that is cut
-/// off, by worker number; as `gather` is; with `WriteFault` if the writer fails. Refused with `OutOfMemory` at any
+/// has more than `MOST_INPUT_BYTES`; with `BadLine` for the first line that has no number; as the first session that is
+/// cut off, by worker number; as `gather` is; with `WriteFault` if the writer fails. Refused with `OutOfMemory` at any
 /// point if no memory is found for the batch's own buffers or a thread can't be started. Nothing is written before the
 /// workers are gathered.
 pub fn run_batch<Rt: Threads + Wait + Sync, G: Gate + Sync, R: Read, W: Write>(
@@ -58,7 +58,7 @@ pub fn run_batch<Rt: Threads + Wait + Sync, G: Gate + Sync, R: Read, W: Write>(
     gate: &G,
     reader: &mut R,
     writer: &mut W,
-) -> Result<(), Refusal> {
+) -> Result<(), Complaint> {
     let table = UnnamedTable::open(alloc, splits, limits, workers, is_audited)?;
     run_named::<Rt, G, R, W, Brand>(rt, alloc, table, policy, gate, reader, writer)
 }
@@ -73,16 +73,16 @@ fn run_named<Rt: Threads + Wait + Sync, G: Gate + Sync, R: Read, W: Write, J: Na
     gate: &G,
     reader: &mut R,
     writer: &mut W,
-) -> Result<(), Refusal>
+) -> Result<(), Complaint>
     requires names { AreNames J.book J.owner table.opened }
     requires some { 0 < table.table.workers }
 {
     let (table, workers) = table.named::<J>(alloc)?;
     match serve_input(rt, alloc, &table, workers, policy, gate, reader) {
-        Ok(ended) => report(alloc, table, ended, writer),
-        Err(refusal) => {
+        Ok(ended) => Ok(report(alloc, table, ended, writer)?),
+        Err(complaint) => {
             drop(table);
-            Err(refusal)
+            Err(complaint)
         }
     }
 }
@@ -97,7 +97,7 @@ fn serve_input<Rt: Threads + Wait + Sync, G: Gate + Sync, R: Read, J: Naming + S
     policy: Policy,
     gate: &G,
     reader: &mut R,
-) -> Result<EndedBatch<J>, Refusal>
+) -> Result<EndedBatch<J>, Complaint>
     requires { 0 < vec_len workers }
 {
     let input = read_input(alloc, reader)?;
@@ -105,7 +105,7 @@ fn serve_input<Rt: Threads + Wait + Sync, G: Gate + Sync, R: Read, J: Naming + S
     drop(input);
     let desks = desks_of(rt, alloc, table, gate, workers)?;
     let served = serve_all(rt, alloc, desks, shares, policy)?;
-    ended_batch_of(alloc, served)
+    Ok(ended_batch_of(alloc, served)?)
 }
 
 /// Makes a desk for each worker, which executes the commands of its session. Refused with `OutOfMemory` if no memory

@@ -3,6 +3,7 @@ ghost use Rattle.std.specs.Prelude.{◌<◌};
 
 use crack_row::{Bound, Limits, Policy, Refusal};
 use crack_server::run_batch;
+use crack_service::Complaint;
 use crack_table::{Gate, OpenGate};
 use std::alloc::Global;
 use std::io::Write;
@@ -16,7 +17,7 @@ use std::{io, thread};
 #[derive(Clone, Copy)]
 struct Case {
     input: &'static [u8],
-    ended: Result<(), Refusal>,
+    ended: Result<(), Complaint>,
     output: &'static [u8],
 }
 
@@ -33,10 +34,10 @@ const CASES: &[Case] = &[
         ended: Ok(()),
         output: b"worker 0\nrow 0.0\nfolded 1\ncount 1\nworker 1\nrow 1.0\naccepted 3 inserted 2 deleted 0 held 2\n",
     },
-    // a line without a number refuses the batch
+    // the first line without a number refuses the batch; blank lines are counted
     Case {
-        input: b"x insert 1 1\n",
-        ended: Err(Refusal::BadStatement),
+        input: b"0 insert 50 5\n\n \r\nx insert 1 1\ny\n",
+        ended: Err(Complaint::BadLine { number: 4 }),
         output: b"",
     },
 ];
@@ -49,7 +50,7 @@ fn run_two<H: Threads + Wait + Sync, G: Gate + Sync, W: Write>(
     is_audited: bool,
     input: &[u8],
     writer: &mut W,
-) -> Result<(), Refusal> {
+) -> Result<(), Complaint> {
     let mut reader = input;
     let splits = [Bound::from_number(100)];
     let limits = Limits::of_history(10);
@@ -143,7 +144,8 @@ fn a_batch_is_refused_where_a_write_fails(rt: HostRuntime) {
             break;
         }
         assert!(rt;
-            ended == Err(Refusal::WriteFault) && OUTPUT.starts_with(writer.bytes.as_slice())
+            ended == Err(Complaint::Refused(Refusal::WriteFault))
+                && OUTPUT.starts_with(writer.bytes.as_slice())
         );
     }
     assert!(rt; whole);

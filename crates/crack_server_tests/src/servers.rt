@@ -97,8 +97,8 @@ fn ended<N: Net<Listener = TcpListener, Stream = TcpStream>>(
     Ok(stream)
 }
 
-/// The replies to a client whose last line is cut short, and to one whose last line has no line feed. Between them a
-/// client connects, sends nothing and leaves.
+/// The replies to a client whose last line is cut short, and to one whose last line has only no line feed. Between them
+/// a client connects, sends nothing and leaves.
 fn clients_who_break_off<N: Net<Listener = TcpListener, Stream = TcpStream>>(
     rt: &N,
     alloc: Global,
@@ -106,7 +106,7 @@ fn clients_who_break_off<N: Net<Listener = TcpListener, Stream = TcpStream>>(
 ) -> io::Result<(Vec<u8>, Vec<u8>)> {
     let first = ended(rt, port, b"insert 1 1\ninsert 2")?;
     drop(sender(rt, port, b"")?);
-    let last = ended(rt, port, b"count 0 5")?;
+    let last = ended(rt, port, b"count 0 5\ninsert 2 2")?;
     let first = answers_of(alloc, first)?;
     let last = answers_of(alloc, last)?;
     Ok((first, last))
@@ -158,13 +158,13 @@ const CASES: &[Case] = &[
         first: b"row 0.0\nbye\n",
         last: [b"count 1\nbye\n", b"count 1\nbye\n"],
     },
-    // clients that break off don't affect others
+    // clients that break off don't affect others, and no line that breaks off is carried out
     Case {
         workers: 2,
         sessions: 3,
         clients: Clients::BreakOff,
         first: b"row 0.0\nrefused 1\n",
-        last: [b"count 0\n", b"count 1\n"],
+        last: [b"count 0\nrefused 1\n", b"count 1\nrefused 1\n"],
     },
     // a session that is cut off doesn't end others
     Case {

@@ -30,11 +30,13 @@ pub enum Notice {
         entries: u64,
     },
     /// The session of a client was cut off: with `WriteFault` if texts were to be written, with `OutOfMemory` if no
-    /// memory was found, and with `ReadFault` otherwise.
+    /// memory was found, and with `ReadFault` otherwise. `has_unfinished` says that the client's last line wasn't
+    /// carried out, because it has no line feed.
     CutOff {
         client: SocketAddr,
         refusal: Refusal,
         cause: Cause,
+        has_unfinished: bool,
     },
     /// Clients were turned away because this many were connected: how many since the last such notice, at least 1,
     /// and the last of them.
@@ -77,9 +79,14 @@ impl Display for Notice {
                 client,
                 refusal,
                 cause,
+                has_unfinished,
             } => {
                 let words = words_of(refusal, cause);
-                write!(f, "client {client}: session cut off: {refusal}: {words}")
+                let more = if has_unfinished { UNFINISHED } else { "" };
+                write!(
+                    f,
+                    "client {client}: session cut off: {refusal}: {words}{more}"
+                )
             }
             Notice::TurnedAway {
                 count: 1,
@@ -108,6 +115,9 @@ impl Display for Notice {
     }
 }
 
+/// What follows the cause if the client's last line wasn't carried out.
+const UNFINISHED: &str = "; a line without a line feed was not carried out";
+
 /// Why a session was cut off with this refusal and this cause, in words.
 fn words_of(refusal: Refusal, cause: Cause) -> &'static str {
     match (refusal, cause) {
@@ -127,6 +137,10 @@ fn words_of(refusal: Refusal, cause: Cause) -> &'static str {
 pub trait Host {
     /// Reports an event to the program. Called on any of the server's threads.
     fn note(&self, notice: Notice);
+
+    /// Reports to the program what `note` couldn't report yet. Each of the server's threads calls this a few times a
+    /// second.
+    fn catch_up(&self) {}
 
     /// Waits for a moment, after a failed system call that is to be repeated.
     fn pause(&self);

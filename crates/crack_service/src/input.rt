@@ -1,7 +1,7 @@
 //! The input of a batch: read whole, checked, and divided among the workers.
 ghost use Rattle.std.specs.Prelude.{◌≡◌, ◌<◌, length, vec_len, IfOk};
 
-use crate::MOST_INPUT_BYTES;
+use crate::{Complaint, MOST_INPUT_BYTES};
 use crack_commands::read_number_up_to;
 use crack_row::{Refusal, Watched};
 use memchr::memchr;
@@ -25,18 +25,24 @@ pub fn read_input<R: Read>(alloc: Global, reader: &mut R) -> Result<Vec<u8>, Ref
 
 /// Divides an input into a list of statements for each worker, in order, each statement with a line feed. A line is a
 /// number, a space and a statement; the number modulo the number of workers is the number of the worker that gets the
-/// statement. Blank lines are skipped. Refused with `BadStatement` if a line that isn't blank doesn't begin with a
-/// number of 32 bits and a space, and with `OutOfMemory` if no memory is found. O(bytes + workers).
-pub fn divide(alloc: Global, input: &[u8], workers: usize) -> Result<Vec<Vec<u8>>, Refusal>
+/// statement. Blank lines are skipped. Refused with `BadLine` and the number of the first line that isn't blank and
+/// doesn't begin with a number of 32 bits and a space, and with `OutOfMemory` if no memory is found.
+/// O(bytes + workers).
+pub fn divide(alloc: Global, input: &[u8], workers: usize) -> Result<Vec<Vec<u8>>, Complaint>
     requires { 0 < workers }
 {
     let mut shares = empty_shares(alloc, workers)?;
     let mut rest = input;
+    let mut number = 0u64;
     'lines: while !rest.is_empty() {
         let (line, after) = first_line(rest);
         rest = after;
+        number = number.saturating_add(1);
         if !is_blank(line) {
-            deal(&mut shares, line)?;
+            let Some((worker, statement)) = numbered(line) else {
+                return Err(Complaint::BadLine { number });
+            };
+            deal(&mut shares, worker, statement)?;
         }
     }
     Ok(shares)
@@ -73,17 +79,12 @@ fn is_blank(line: &[u8]) -> bool {
         .all(|byte| *byte == b' ')
 }
 
-/// Appends the statement of a line, which follows the line's number and a space, and a line feed to the share of one
-/// worker: the line's number modulo the number of shares. Refused with `BadStatement` if the line doesn't begin with
-/// a number of 32 bits and a space; then nothing has changed. Refused with `OutOfMemory` if no memory is found; then
-/// the share may have the statement without the line feed.
-fn deal(shares: &mut Vec<Vec<u8>>, line: &[u8]) -> Result<(), Refusal>
+/// Appends a statement and a line feed to the share of one worker: `number` modulo the number of shares. Refused if no
+/// memory is found; then the share may have the statement without the line feed.
+fn deal(shares: &mut Vec<Vec<u8>>, number: u32, statement: &[u8]) -> Result<(), AllocError>
     requires { 0 < vec_len shares.old }
     ensures { vec_len shares.new ≡ vec_len shares.old }
 {
-    let Some((number, statement)) = numbered(line) else {
-        return Err(Refusal::BadStatement);
-    };
     let worker = number as usize % shares.len();
     let share = &mut shares[worker];
     share.extend_from_slice(statement)?;

@@ -1,9 +1,11 @@
-//! The events that a server reports to the program that runs it, and the lines of a batch.
+//! The events that a server reports to the program that runs it, the lines of a batch, and why a run was refused.
 #![tactic(auto)]
 
+pub mod complaint;
 pub mod host;
 pub mod input;
 
+pub use complaint::Complaint;
 pub use host::{Alone, Cause, Host, Notice};
 pub use input::{divide, read_input};
 

@@ -1,6 +1,7 @@
 pub mod Adding
 pub mod Appending
 pub mod Asking
+pub mod Broken
 pub mod Calling
 pub mod Ended
 pub mod Feeds

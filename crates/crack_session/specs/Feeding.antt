@@ -4,6 +4,7 @@
 use Rattle.std.specs.Prelude.{◌≡◌, ℕ, ◌+◌, ◌-◌, ◌^◌, ◌<◌, min, Bool, true, false, List, [], ◌∷◌, ◌++◌, length, map, drop, Option, None, Some, Ok, ◌==◌, if◌then◌else◌}
 use Rattle.std.specs.List.{concat, filter_map, flat_map}
 use Rattle.crack_row.specs.declared.Bound.{Bound}
+use Rattle.crack_row.specs.declared.refusal.Refusal.TheVariants.{BadStatement}
 use Rattle.crack_plain.specs.Plain.{PlainView}
 use Rattle.crack_commands.specs.Grammar.{Reading}
 use Rattle.crack_commands.specs.Texts.{row_text, piece_text}
@@ -14,6 +15,7 @@ use Rattle.crack_core.specs.Listing.{rows_listed}
 use Rattle.crack_core.specs.Steps.{Bounds}
 use Rattle.crack_session.specs.declared.TheConstants.{OUTPUT_BYTES}
 use Rattle.crack_session.specs.declared.answer.Answer.{Answer}
+use Rattle.crack_session.specs.declared.answer.Answer.TheVariants.{Refused as AnsweredRefused}
 use Rattle.crack_core.specs.declared.turns.PartReply.{PartReply}
 use Rattle.crack_session.specs.declared.session.SessionProgress.{SessionProgress}
 use Rattle.crack_session.specs.declared.feeding.Why.{Why}
@@ -24,7 +26,7 @@ use Rattle.crack_session.specs.declared.rest.Rest.TheVariants.{Nothing, Rows, Li
 use Rattle.crack_session.specs.Answers.{is_short_answer, answer_text}
 use Rattle.crack_session.specs.Calls.{Call, policy_after, AreAnswersOf}
 use Rattle.crack_session.specs.Lines.{cut_line}
-use Rattle.crack_session.specs.Readings.{reading_of, until_last}
+use Rattle.crack_session.specs.Readings.{reading_of, until_last, broken_off}
 use Rattle.crack_session.specs.Sessions.{AreAnswers}
 
 -- the lines that the second list of bytes finishes by line feeds, cut to the bytes that a session keeps (`cut_line`):
@@ -136,3 +138,13 @@ StoppedFor Wants left out s = (left ≡ 0) × (s.unwritten ≡ []) × (s.ending 
 StoppedFor Full left out s = OUTPUT_BYTES < length out + LONGEST_TEXT
 StoppedFor QuitSaid left out s = (s.unwritten ≡ []) × (s.ending ≡ Some Quit)
 StoppedFor Refused left out s = (s.unwritten ≡ []) × (s.ending ≡ Some Http)
+
+-- the answer to a line that breaks off (`broken_off`): the refusal `BadStatement`; no answer if the line is blank
+abbrev pub broken_answers : List ℕ → List Answer
+broken_answers line = map (λ (reading : Reading). AnsweredRefused BadStatement) (broken_off line)
+
+-- The input of a session breaks off, because its sender is gone: an unfinished line isn't carried out, but answered as
+-- `broken_answers` says. The answer is counted, and its text is appended to the output. No line is unfinished then.
+pub record BreaksOff (old : SessionState) (out out' : List ℕ) (new : SessionState) : Type 0 where
+  pub out_is : out' ≡ out ++ concat (map answer_text (broken_answers old.begun))
+  pub after : new ≡ record old { begun = []; progress = all_noted old.progress (broken_answers old.begun) }

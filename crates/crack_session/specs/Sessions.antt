@@ -1,5 +1,5 @@
 -- A session as a relation between statements, rows and answers. `bounds`, `splits` and `tables` are as in `Answers`.
-use Rattle.std.specs.Prelude.{◌≡◌, ℕ, ◌+◌, List, [], ◌∷◌, Option, None, Some, option_map, ◌==◌, if◌then◌else◌}
+use Rattle.std.specs.Prelude.{◌≡◌, ℕ, ◌+◌, List, [], ◌∷◌, ◌++◌, Option, None, Some, option_map, ◌==◌, if◌then◌else◌}
 use Rattle.std.specs.List.{list_any}
 use Rattle.crack_row.specs.declared.Bound.{Bound}
 use Rattle.crack_plain.specs.Plain.{PlainView}
@@ -7,6 +7,7 @@ use Rattle.crack_session.specs.declared.answer.Answer.{Answer}
 use Rattle.crack_commands.specs.Grammar.{Reading}
 use Rattle.crack_session.specs.Answers.{IsAnswer, is_short_answer}
 use Rattle.crack_core.specs.Steps.{Bounds}
+use Rattle.crack_session.specs.Readings.{statements, until_last, broken_off}
 
 -- `answers` are answers to these parsed lines, one for each and in order; the plain tables are `tables` before the
 -- first, and `new` after the last
@@ -24,3 +25,13 @@ first_short (answer ∷ answers) = if is_short_answer answer then Some 1 else op
 abbrev pub whole_lines : List ℕ → List ℕ
 whole_lines [] = []
 whole_lines (b ∷ bs) = if list_any (λ c. c == 10) (b ∷ bs) then b ∷ whole_lines bs else []
+
+-- the bytes after the last line feed; all of them if there is no line feed
+abbrev pub last_line : List ℕ → List ℕ
+last_line [] = []
+last_line (b ∷ bs) = if list_any (λ c. c == 10) (b ∷ bs) then last_line bs else b ∷ bs
+
+-- the statements of bytes whose sender is gone: those of the whole lines, and then `BadStatement` for bytes after the
+-- last line feed, unless they are blank; through the first statement that ends the session
+abbrev pub statements_sent : List ℕ → List Reading
+statements_sent bytes = until_last (statements (whole_lines bytes) ++ broken_off (last_line bytes))

@@ -1,12 +1,13 @@
 //! Sessions that are fed bytes, whatever the source of the bytes.
 ghost use Rattle.std.specs.Prelude.{◌≡◌, ℕ, List, ◌+◌, ◌-◌, ◌<◌, ◌≤◌, ◌++◌, [], ◌∷◌, None, Some, Ok, IfSome, IfNone};
-ghost use Rattle.std.specs.Prelude.{IsTrue, false, length, take};
+ghost use Rattle.std.specs.Prelude.{IsTrue, IsSome, ◌↔◌, false, length, take};
 ghost use Rattle.crack_session.specs.Answers.{IsAnswer, answer_text};
 ghost use Rattle.crack_session.specs.Calls.{IsReadingMadeOf};
 ghost use Rattle.crack_session.specs.AskingDesks.{AsksDesk, of_option};
 ghost use Rattle.crack_session.specs.Lines.{cut_line};
-ghost use Rattle.crack_session.specs.Readings.{reading_of, statements, until_last};
-ghost use Rattle.crack_session.specs.Feeding.{AnswersAll, Feeds, StoppedFor, ending_after, fed};
+ghost use Rattle.crack_session.specs.Readings.{broken_off, reading_of, statements, until_last};
+ghost use Rattle.crack_session.specs.Sessions.{statements_sent};
+ghost use Rattle.crack_session.specs.Feeding.{AnswersAll, BreaksOff, Feeds, StoppedFor, ending_after, fed};
 ghost use Rattle.crack_session.specs.Feeding.{progress_after, unfinished};
 ghost use Rattle.crack_commands.specs.declared.statement.Statement.TheVariants.{Insert};
 ghost use Rattle.crack_commands.specs.Texts.{reply_text};
@@ -20,7 +21,7 @@ use crate::line::read_line;
 use crate::rest::{Output, Rest, append_answer, append_reply, has_room};
 use crate::session::SessionProgress;
 use arrayvec::ArrayVec;
-use crack_commands::{ClosingLine, LONGEST_TEXT, Statement, leading_insert, push};
+use crack_commands::{ClosingLine, LONGEST_TEXT, Statement, leading_insert, push, push_refusal};
 use crack_row::{Command, Key, Payload, Policy, Refusal, Reply};
 use std::alloc::Global;
 use std::marker::Model;
@@ -160,6 +161,31 @@ impl Session {
             until_last (fed [] bytes ++ fed self.old.begun (10 ∷ [])) ≡ statements bytes }
     {
         self.feed(alloc, desk, b"\n", out)
+    }
+
+    /// Whether there is an unfinished line that isn't blank. O(1).
+    pub fn has_unfinished(&self) -> bool
+        ensures { IsTrue result ↔ IsSome (reading_of self.now.begun) }
+    {
+        read_line(self.begun.as_slice()).is_some()
+    }
+
+    /// Takes the end of an input whose sender is gone, as that of a socket. An unfinished line may be the beginning of
+    /// a longer one, so it isn't carried out: unless it is blank, it is answered as a line that isn't a statement, with
+    /// `BadStatement`. O(1), no memory.
+    pub fn break_off(&mut self, out: &mut Output)
+        requires written { self.old.unwritten ≡ [] }
+        requires room { length out.old.items + LONGEST_TEXT ≤ OUTPUT_BYTES }
+        ensures breaks { BreaksOff self.old out.old.items out.new.items self.new }
+        // With the refusal, if there is one, the statements are those of all bytes that were fed.
+        ensures whole { (bytes : List ℕ) → self.old.begun ≡ unfinished [] bytes →
+            until_last (fed [] bytes ++ broken_off self.old.begun) ≡ statements_sent bytes }
+    {
+        if self.finish(&[]).is_none() {
+            return;
+        }
+        note(&mut self.progress, &Answer::Refused(Refusal::BadStatement));
+        push_refusal(out, &Refusal::BadStatement);
     }
 
     /// Appends as much of the rest of a text as there is room for. Returns `None` if the session takes some of the

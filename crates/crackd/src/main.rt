@@ -1,6 +1,8 @@
 //! The program `crackd`: parses its command line, and runs the request.
 #![tactic(auto)]
 
+mod readers;
+
 ghost use Rattle.crack_witness.specs.Witnesses.{AreNames};
 
 use crack_arguments::{
@@ -11,16 +13,18 @@ use crack_csv::{export_csv, load_csv};
 use crack_loop::{ServerEnding, Terms};
 use crack_row::{Policy, Refusal, Upkeep, Watched};
 use crack_server::{run_batch, run_service, run_supervised, serve_supervisor};
-use crack_service::{Host, Notice, REPLY_BYTES};
+use crack_service::{Complaint, Host, Notice, REPLY_BYTES};
 use crack_session::serve;
 use crack_table::{MOST_WORKERS, OpenGate, Table, UnnamedTable};
 use crack_witness::{Naming, Worker};
 use jiff::Timestamp;
+use libc::STDERR_FILENO;
+use readers::{ImpatientOutput, LAST_MILLIS, takes_line};
 use std::io::{BufWriter, ErrorKind, Write};
 use std::marker::Brand;
 use std::net::{Ipv4Addr, Net, TcpListener, TcpStream};
 use std::process::ExitCode;
-use std::sync::Wait;
+use std::sync::{Mutex, Wait};
 use std::thread::Threads;
 use std::time::{Clock, Duration};
 use std::{env, io, thread};
@@ -95,9 +99,9 @@ fn batch<H: Threads + Wait + Sync>(
     handle: &H,
     rt: &HostRuntime,
     batch_options: &BatchOptions,
-) -> Result<(), Refusal> {
+) -> Result<(), Complaint> {
     let Ok(mut writer) = BufWriter::with_capacity(rt.alloc(), REPLY_BYTES, rt.stdout()) else {
-        return Err(Refusal::OutOfMemory);
+        return Err(Complaint::Refused(Refusal::OutOfMemory));
     };
     let opening = &batch_options.opening;
     run_batch(
@@ -145,9 +149,9 @@ fn serve_named<
     if service.is_supervised {
         return serve_under_supervisor(handle, rt, service, table, workers);
     }
-    let mut writer = rt.stdout();
-    let host = console_of(rt, service);
-    match listen(handle, &host, &mut writer) {
+    let mut writer = ImpatientOutput::new(rt.stdout());
+    let host = console_of(handle, rt, service);
+    let served = match listen(handle, &host, &mut writer) {
         Ok(listener) => run_service(
             handle,
             rt.alloc(),
@@ -165,7 +169,9 @@ fn serve_named<
             drop(table);
             Err(refusal)
         }
-    }
+    };
+    host.report_dropped(LAST_MILLIS);
+    served
 }
 
 /// Answers the statements of standard input on standard output, and only then listens, and serves as `run_supervised`
@@ -181,8 +187,8 @@ fn serve_under_supervisor<
     workers: Vec<Worker<J>>,
 ) -> Result<(), Refusal> {
     let mut writer = rt.stdout();
-    let host = console_of(rt, service);
-    match prepared(handle, rt, service, &table, workers, &host, &mut writer) {
+    let host = console_of(handle, rt, service);
+    let served = match prepared(handle, rt, service, &table, workers, &host, &mut writer) {
         Ok((listener, workers)) => run_supervised(
             handle,
             rt.alloc(),
@@ -199,7 +205,9 @@ fn serve_under_supervisor<
             drop(table);
             Err(refusal)
         }
-    }
+    };
+    host.report_dropped(LAST_MILLIS);
+    served
 }
 
 /// Lets a worker answer the statements of standard input, and then listens. Returns the listener and the workers.
@@ -214,7 +222,7 @@ fn prepared<
     service: &ServeOptions,
     table: &Table<J>,
     workers: Vec<Worker<J>>,
-    host: &Console<'_>,
+    host: &Console<'_, H>,
     writer: &mut W,
 ) -> Result<(TcpListener, Vec<Worker<J>>), Refusal> {
     let workers = serve_supervisor(
@@ -264,31 +272,53 @@ fn has_upkeep(opening: &TableOptions) -> bool {
     matches!(opening.limits.upkeep, Upkeep::Automatic)
 }
 
-/// The host of a server: writes notices as lines to standard error, unless it is quiet.
+/// The host of a server: writes notices as lines to standard error, its log, unless it is quiet. A line for which the
+/// log's reader has left no room is dropped, so that a reader that stops reading delays no client.
 #[derive(Drop)]
-struct Console<'a> {
+struct Console<'a, R: Wait> {
+    handle: &'a R,
     rt: &'a HostRuntime,
     port: u16,
     is_quiet: bool,
+    /// How many lines were dropped since the log last had their number. The lock is held while a line is written.
+    dropped: Mutex<u64>,
 }
 
 /// The host of a server with these options.
-fn console_of<'a>(rt: &'a HostRuntime, service: &ServeOptions) -> Console<'a> {
+fn console_of<'a, R: Wait>(
+    handle: &'a R,
+    rt: &'a HostRuntime,
+    service: &ServeOptions,
+) -> Console<'a, R> {
     Console {
+        handle,
         rt,
         port: service.port,
         is_quiet: service.is_quiet,
+        dropped: Mutex::new(0),
     }
 }
 
-impl<'a> Host for Console<'a> {
-    /// Writes a line to standard error: the present date and time, the word `crackd`, and the notice. If the server is
-    /// quiet, writes nothing. A failure to write is ignored.
+impl<'a, R: Wait> Host for Console<'a, R> {
+    /// Writes a line to standard error: the present date and time, the word `crackd`, and the notice. Before it writes
+    /// the number of dropped lines, if there are any. Drops the line if it would have to wait for the reader. If the
+    /// server is quiet, writes nothing. A failure to write is ignored.
     fn note(&self, notice: Notice) {
-        if !self.is_quiet {
-            let time = self.time();
-            let _ = eprintln!(self.rt; "{time} crackd: {notice}");
+        if self.is_quiet {
+            return;
         }
+        let mut dropped = self.dropped.lock(self.handle);
+        if self.has_reported(*dropped, 0) && takes_line(STDERR_FILENO, 0) {
+            *dropped = 0;
+            let _ = eprintln!(self.rt; "{} crackd: {notice}", self.time());
+        } else {
+            *dropped = dropped.saturating_add(1);
+        }
+    }
+
+    /// Writes the number of dropped lines, if there are any, as soon as the reader has made room.
+    fn catch_up(&self) {
+        self.report_dropped(0);
     }
 
     /// Sleeps for 10 milliseconds.
@@ -313,7 +343,29 @@ impl<'a> Host for Console<'a> {
     }
 }
 
-impl<'a> Console<'a> {
+impl<'a, R: Wait> Console<'a, R> {
+    /// Writes the number of dropped lines, if there are any and the reader makes room within `millis` milliseconds.
+    fn report_dropped(&self, millis: i32) {
+        let mut dropped = self.dropped.lock(self.handle);
+        if self.has_reported(*dropped, millis) {
+            *dropped = 0;
+        }
+    }
+
+    /// Writes a line with this number of dropped lines, if there are any and the reader makes room within `millis`
+    /// milliseconds. Returns whether no line is left to be reported.
+    fn has_reported(&self, dropped: u64, millis: i32) -> bool {
+        if dropped == 0 {
+            return true;
+        }
+        let takes = takes_line(STDERR_FILENO, millis);
+        if takes {
+            let time = self.time();
+            let _ = eprintln!(self.rt; "{time} crackd: log lines that were dropped: {dropped}: the reader had stopped");
+        }
+        takes
+    }
+
     /// The present date and time, in whole seconds, or the first second of 1970 if the clock can't be read.
     fn time(&self) -> Timestamp {
         let seconds = match self.rt.since_1970() {
@@ -326,9 +378,9 @@ impl<'a> Console<'a> {
 
 /// Listens on the host's port of 127.0.0.1, and reports the port to the writer and the host. Refused with
 /// `ReadFault` if the port can't be bound, and with `WriteFault` if the writer fails.
-fn listen<H: Net<Listener = TcpListener, Stream = TcpStream>, W: Write>(
+fn listen<H: Wait + Net<Listener = TcpListener, Stream = TcpStream>, W: Write>(
     handle: &H,
-    host: &Console<'_>,
+    host: &Console<'_, H>,
     writer: &mut W,
 ) -> Result<TcpListener, Refusal> {
     let Ok(listener) = TcpListener::bind(handle, (Ipv4Addr::LOCALHOST, host.port)) else {
@@ -355,39 +407,45 @@ fn run_request<H: Threads + Wait + Net<Listener = TcpListener, Stream = TcpStrea
     handle: &H,
     rt: &HostRuntime,
     request: &Request,
-) -> Result<(), Refusal> {
-    match request {
+) -> Result<(), Complaint> {
+    let done = match request {
         Request::Help(text) => print!(rt; "{text}").map_err(|_| Refusal::WriteFault),
         Request::Script(opening) => script(rt, opening),
-        Request::Batch(batch_options) => batch(handle, rt, batch_options),
+        Request::Batch(batch_options) => return batch(handle, rt, batch_options),
         Request::Serve(service) => serve_port(handle, rt, service),
         Request::Csv(opening) => csv(rt, opening),
-    }
+    };
+    done.map_err(Complaint::from)
 }
 
-/// Writes a refusal to standard error, followed by its cause if `in_words`. Returns the exit status of a failure, 1.
-fn complain(rt: &HostRuntime, refusal: Refusal, in_words: bool) -> ExitCode {
+/// Writes to standard error why the run was refused, in words if `in_words`. Returns the exit status of a failure, 1.
+fn complain(rt: &HostRuntime, complaint: Complaint, in_words: bool) -> ExitCode {
     let _ = if in_words {
-        eprintln!(rt; "crackd: {refusal}: {}", refusal.cause())
+        eprintln!(rt; "crackd: {complaint}")
     } else {
-        eprintln!(rt; "crackd: {refusal}")
+        eprintln!(rt; "crackd: {}", complaint.refusal())
     };
     ExitCode::FAILURE
 }
 
-/// Runs the request of the command line. The exit status is 1 if it is refused, and 2 if there is no valid request.
+/// Runs the request of the command line. The exit status is 1 if it is refused, and 2 if there is no valid request. A
+/// refused server waits at most `LAST_MILLIS` for the reader of its log.
 fn main(rt: HostRuntime) -> ExitCode {
     let (request, in_words) = request(&rt);
     match request {
         Ok(request) => {
+            let is_server = matches!(&request, Request::Serve(_));
             let done = run_request(&rt, &rt, &request);
             drop(request);
             match done {
                 Ok(()) => ExitCode::SUCCESS,
-                Err(refusal) => complain(&rt, refusal, in_words),
+                Err(_) if is_server && !takes_line(STDERR_FILENO, LAST_MILLIS) => ExitCode::FAILURE,
+                Err(complaint) => complain(&rt, complaint, in_words),
             }
         }
-        Err(ArgumentsError::Refused(refusal)) => complain(&rt, refusal, in_words),
+        Err(ArgumentsError::Refused(refusal)) => {
+            complain(&rt, Complaint::Refused(refusal), in_words)
+        }
         Err(error) => {
             let _ = eprintln!(rt; "crackd: {error}");
             ExitCode::from(2)

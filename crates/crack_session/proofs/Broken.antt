@@ -1,0 +1,50 @@
+-- The statements of bytes whose sender is gone are those that the bytes finish, and the refusal of what is left.
+use Rattle.std.proofs.Common.{◌≡◌, ℕ, cond, true, false, List, [], ◌∷◌, ◌++◌, eqb, refl, sym, ap, ◌∙◌, ⊎_elim, append_assoc, append-nil}
+use Rattle.std.proofs.lemmas.Bool.{cases_Bool}
+use Rattle.crack_commands.specs.Grammar.{Reading}
+use Rattle.crack_session.specs.Feeding.{unfinished, fed}
+use Rattle.crack_session.specs.Input.{has_feed}
+use Rattle.crack_session.specs.Lines.{cut_line}
+use Rattle.crack_session.specs.Readings.{reading_of, until_last, is_last, broken_off, refused_if_some}
+use Rattle.crack_session.specs.Sessions.{last_line, statements_sent}
+use Rattle.crack_session.proofs.Ended.{statements_whole}
+use Rattle.crack_session.proofs.Feeds.{take-take-append}
+use Rattle.crack_session.proofs.Following.{reading_kept}
+
+last_or_all : (bytes : List ℕ) → cond (has_feed bytes) (last_line bytes) bytes ≡ last_line bytes
+last_or_all [] = refl
+last_or_all (b ∷ bs) = ⊎_elim
+    (λ (h : has_feed (b ∷ bs) ≡ true). rw h refl)
+    (λ (h : has_feed (b ∷ bs) ≡ false). rw h refl)
+    (cases_Bool (has_feed (b ∷ bs)))
+
+-- the unfinished line is the last one, as far as it is kept
+unfinished_last : (begun bytes : List ℕ) → unfinished (cut_line begun) bytes ≡ cut_line (cond (has_feed bytes) (last_line bytes) (begun ++ bytes))
+unfinished_last begun [] = ap cut_line (sym (append-nil begun))
+unfinished_last begun (b ∷ bs) = ⊎_elim
+    (λ (e : eqb b 10 ≡ true). rw e (unfinished_last [] bs ∙ ap cut_line (last_or_all bs)))
+    (λ (e : eqb b 10 ≡ false).
+    let more = ap (λ k. unfinished k bs) (take-take-append 202 begun (b ∷ [])) ∙ unfinished_last (begun ++ b ∷ []) bs in
+    ⊎_elim
+    (λ (h : has_feed bs ≡ true). rw (e, h) (more ∙ rw h refl))
+    (λ (h : has_feed bs ≡ false). rw (e, h) (more ∙ rw h (ap cut_line (append_assoc begun (b ∷ []) bs))))
+    (cases_Bool (has_feed bs)))
+    (cases_Bool (eqb b 10))
+
+broken_last : (bytes : List ℕ) → broken_off (unfinished [] bytes) ≡ broken_off (last_line bytes)
+broken_last bytes = ap refused_if_some (ap reading_of (unfinished_last [] bytes ∙ ap cut_line (last_or_all bytes)) ∙ reading_kept (last_line bytes))
+
+-- statements that end a session end it with others after them too
+until_last-again : (xs ys : List Reading) → until_last (until_last xs ++ ys) ≡ until_last (xs ++ ys)
+until_last-again [] ys = refl
+until_last-again (x ∷ xs) ys = ⊎_elim
+    (λ (e : is_last x ≡ true). rw (e, e) refl)
+    (λ (e : is_last x ≡ false). rw (e, e) (ap (λ rs. x ∷ rs) (until_last-again xs ys)))
+    (cases_Bool (is_last x))
+
+pub statements_broken : (begun bytes : List ℕ) → begun ≡ unfinished [] bytes → until_last (fed [] bytes ++ broken_off begun) ≡ statements_sent bytes
+statements_broken begun bytes is =
+    ap (λ k. until_last (fed [] bytes ++ broken_off k)) is
+    ∙ ap (λ rs. until_last (fed [] bytes ++ rs)) (broken_last bytes)
+    ∙ sym (until_last-again (fed [] bytes) (broken_off (last_line bytes)))
+    ∙ ap (λ rs. until_last (rs ++ broken_off (last_line bytes))) (sym (statements_whole bytes))
