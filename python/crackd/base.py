@@ -7,7 +7,7 @@ from typing import Any, Optional, Sequence
 
 from .arrays import flags, ints
 from .described import html_of, text_of
-from .errors import OutOfMemory
+from .errors import OutOfMemory, nothing_done
 from .layout import Layout
 from .primitives import Steps
 from .questions import Questions
@@ -80,7 +80,8 @@ class AnyTable(Questions):
         """The keys as numbers, and the payloads as an array. Raises ValueError if they differ in length."""
         if len(keys) != len(payloads):
             raise ValueError(f"{len(keys)} keys and {len(payloads)} payloads")
-        return self._keys.many(keys), self._payloads.many(payloads)
+        with nothing_done():
+            return self._keys.many(keys), self._payloads.many(payloads)
 
     def delete(self, row: int) -> bool:
         """Deletes a row. Returns whether it existed."""
@@ -88,7 +89,9 @@ class AnyTable(Questions):
 
     def delete_many(self, rows: Any) -> Flags:
         """Deletes rows. Returns an array of bool: whether each row existed."""
-        return self._drive(self._flags_steps(lambda: self._delete_many(ints("Q", rows, "row numbers"))))
+        with nothing_done():
+            numbers = ints("Q", rows, "row numbers")
+        return self._drive(self._flags_steps(lambda: self._delete_many(numbers)))
 
     def _flags_steps(self, call: Any) -> Steps[Flags]:
         found: Flags = flags((yield call()))
@@ -108,7 +111,8 @@ class AnyTable(Questions):
         """
         if not len(rows) == len(keys) == len(payloads):
             raise ValueError(f"{len(rows)} row numbers, {len(keys)} keys and {len(payloads)} payloads")
-        words = ints("Q", rows, "row numbers"), self._keys.many(keys), self._payloads.many(payloads)
+        with nothing_done():
+            words = ints("Q", rows, "row numbers"), self._keys.many(keys), self._payloads.many(payloads)
         return self._drive(self._flags_steps(lambda: self._update_many(*words)))
 
     def count(self, low: Any = None, high: Any = None) -> int:

@@ -2,7 +2,8 @@
 
 from __future__ import annotations
 
-from typing import Any
+import contextlib
+from typing import Any, Iterator
 
 REASONS = {
     1: "this isn't a statement",
@@ -160,6 +161,20 @@ KINDS = {
     12: BadSplits,
     14: BadLimit,
 }
+
+
+@contextlib.contextmanager
+def nothing_done() -> Iterator[None]:
+    """A context in which a call gets the memory that it needs, before it does anything.
+
+    A MemoryError, such as numpy's, becomes `OutOfMemory`, whose `done` is 0.
+    """
+    try:
+        yield
+    except MemoryError as error:
+        if isinstance(error, Error):
+            raise
+        raise refused(8) from None
 
 
 def refused(code: int, done: int = 0, later: int = 0) -> Refused:

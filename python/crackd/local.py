@@ -11,7 +11,7 @@ from typing import Any, Optional, Sequence
 
 from .arrays import TOP, address, empty, from_ints, np, plain
 from .base import POLICIES, POLICY, SERIAL, SHIFT
-from .errors import Closed, Error, Refused, refused
+from .errors import Closed, Error, Refused, nothing_done, refused
 from .forks import NoLock, leave_in_children
 from .layout import PartLayout, Piece
 from .library import TOTALS, Handle, Totals, library
@@ -252,7 +252,8 @@ class LocalShard:
 
     def insert_many(self, keys: Any, payloads: Any) -> Any:
         """Inserts rows. Returns their numbers. An error has as `answers` those of the rows inserted before it."""
-        placed = Placed(len(keys))
+        with nothing_done():
+            placed = Placed(len(keys))
         try:
             return self.place_many(keys, payloads, placed)
         except Error as error:
@@ -285,11 +286,14 @@ class LocalShard:
 
     def delete_many(self, rows: Any) -> Any:
         """Deletes rows in order. Returns 1 for each that existed and 0 for each that didn't."""
-        (parts, serials), found, done = _parted(rows), empty("B", len(rows)), c_uint64()
+        with nothing_done():
+            (parts, serials), found, done = _parted(rows), empty("B", len(rows)), c_uint64()
         with self._lock:
             try:
                 code = self._run(self._library.delete_many, parts, serials, found, byref(done))
-                self.held -= sum(plain(found[: done.value])) if np is None else int(found[: done.value].sum())
+                gone = found[: done.value]
+                # (this needs no memory)
+                self.held -= sum(gone) if np is None else int(np.count_nonzero(gone))
             except BaseException:
                 if self._handle.is_open:
                     self.held = self.rows()
@@ -301,7 +305,8 @@ class LocalShard:
 
     def update_many(self, rows: Any, keys: Any, payloads: Any) -> Any:
         """Replaces keys and payloads of rows, in order. Returns 1 for each row that exists, 0 for each other."""
-        (parts, serials), found, done = _parted(rows), empty("B", len(rows)), c_uint64()
+        with nothing_done():
+            (parts, serials), found, done = _parted(rows), empty("B", len(rows)), c_uint64()
         with self._lock:
             try:
                 code = self._run(self._library.update_many, parts, serials, keys, payloads, found, byref(done))

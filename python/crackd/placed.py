@@ -13,12 +13,14 @@ from typing import Any, Callable, Concatenate, Optional, ParamSpec, Sequence, Ty
 
 from .arrays import empty, from_ints, np, plain
 from .errors import refused
-from .routing import SHARD_SHIFT, blocks_of, error_of, known_rows
+from .routing import SHARD_SHIFT, Spare, blocks_of, error_of
 from .rows import SHIFT
 from .typed import RowNumbers
 
 # no partition has this number: it means that the library hasn't written one
 NOWHERE = 0xFFFF_FFFF
+# how many row numbers are moved to another place at a time, which takes little memory
+ROWS_AT_ONCE = 4096
 
 Words = ParamSpec("Words")
 Answer = TypeVar("Answer")
@@ -81,25 +83,45 @@ class PlacedInTurn:
 
 
 class PlacedInShards:
-    """Rows for several shards, each of which inserts its rows by one call of the library."""
+    """Rows for several shards, each of which inserts its rows by one call of the library.
+
+    Its arrays are made before that, since after a refusal there may be no memory. `numbers` has the number of each
+    inserted row at its place among the given rows.
+    """
 
     def __init__(self, shards: Any):
         self.shards, self.blocks = shards, list(blocks_of(shards))
         self.each = {it.shard: Placed(len(it.places)) for it in self.blocks}
+        self.numbers, self._is_done = np.empty(len(shards), np.uint64), np.zeros(len(shards), bool)
+        self._spare = Spare()
 
-    def _known(self) -> tuple[Any, Any]:
-        answers = {shard: it.rows() for shard, it in self.each.items()}
-        return known_rows(self.blocks, answers, {}, len(self.shards))
+    def put(self, shard: int, places: Any, rows: RowNumbers) -> None:
+        """Stores the numbers, within a shard, of the rows that it has inserted, at their places."""
+        rows |= np.uint64(shard << SHARD_SHIFT)
+        self.numbers[places], self._is_done[places] = rows, True
+
+    def _put_all(self) -> None:
+        """Stores the numbers of all inserted rows."""
+        self._spare.give()
+        for shard, places in self.blocks:
+            rows = self.each[shard].rows()
+            self.put(shard, places[: len(rows)], rows)
 
     def rows(self) -> RowNumbers:
-        """The numbers of the rows inserted so far."""
-        rows, is_done = self._known()
-        found: RowNumbers = rows[is_done]
+        """The numbers of the rows inserted so far, in the order of the given rows. They take the place of `numbers`."""
+        self._put_all()
+        count = 0
+        for at in range(0, len(self.shards), ROWS_AT_ONCE):
+            rows = self.numbers[at : at + ROWS_AT_ONCE][self._is_done[at : at + ROWS_AT_ONCE]]
+            self.numbers[count : count + len(rows)] = rows
+            count += len(rows)
+        found: RowNumbers = self.numbers[:count]
         return found
 
     def error(self, errors: dict[int, Any]) -> Any:
         """The error of the whole call, chosen from those of the shards."""
-        return error_of(errors, self.shards, self._known()[1])
+        self._put_all()
+        return error_of(errors, self.shards, self._is_done)
 
 
 class Taken:

@@ -11,6 +11,8 @@ from typing import Any, Callable, Mapping, Optional
 
 Jobs = Mapping[int, Callable[[], Any]]
 
+SECONDS_OF_A_LOOK = 1
+
 # the threads that are inside `run_side_by_side`
 _within: set[int] = set()
 
@@ -76,13 +78,17 @@ class Helpers:
         self._works: queue.SimpleQueue[Work] = queue.SimpleQueue()
 
     def ask(self, work: Work, most: int) -> None:
-        """Has up to `most` threads help with `work`: fewer if no more can be started, as while the interpreter ends."""
-        with contextlib.suppress(RuntimeError):
+        """Has up to `most` threads help with `work`.
+
+        There are fewer if no more can be started, as while the interpreter ends, or if there is no memory.
+        """
+        with contextlib.suppress(RuntimeError, MemoryError):
             while self.count < min(most, processors()):
                 _thread.start_new_thread(self._serve, ())
                 self.count += 1
-        for _ in range(min(most, self.count)):
-            self._works.put(work)
+        with contextlib.suppress(MemoryError):
+            for _ in range(min(most, self.count)):
+                self._works.put(work)
 
     def _serve(self) -> None:
         while True:
@@ -132,7 +138,9 @@ class Work:
     def wait(self) -> None:
         """Waits until no thread helps. A thread that begins later finds no job."""
         while self._helpers:
-            self._ended.get()
+            # a thread that found no memory for it has put nothing
+            with contextlib.suppress(queue.Empty):
+                self._ended.get(timeout=SECONDS_OF_A_LOOK)
 
     def end(self) -> None:
         """Lets no more jobs begin, and waits for those that have begun, whatever signal handlers raise."""

@@ -11,7 +11,7 @@ from typing import Any, Callable, Iterator, NamedTuple, Optional, Sequence
 
 from .arrays import TOP, np
 from .base import MOST_PARTS, SHIFT, AnyTable
-from .errors import BadSplits, Error, Refused, ShardLost, refused
+from .errors import BadSplits, Error, Refused, ShardLost, nothing_done, refused
 from .layout import PartLayout
 
 # a row number is a shard, a partition of that shard in the 6 bits below, and a serial in the lower 48 bits
@@ -25,6 +25,8 @@ FEW_SHARDS, FEW_PARTS = 16, 64
 # A `PartFinder` has a table of up to `1 << INTERVAL_BITS` intervals. With fewer than `FEW_SPLITS` splits, or for fewer
 # than `FEW_KEYS` keys, the table isn't worth its cost.
 INTERVAL_BITS, FEW_SPLITS, FEW_KEYS = 14, 16, 10_000
+# the bytes of memory that an error may need; Python itself takes a megabyte at a time
+SPARE = 1 << 21
 
 
 class Block(NamedTuple):
@@ -194,7 +196,8 @@ class Sharded(AnyTable):
 
     def _flags(self, name: str, rows: Any, *columns: Any) -> Any:
         """The flag of each row of a call for many. Rows after the first that `_faults` refuses aren't sent."""
-        faults = self._faults(rows, *columns[:1])
+        with nothing_done():
+            faults = self._faults(rows, *columns[:1])
         end = int(np.argmax(faults != 0)) if faults.any() else len(rows)
         found = self._flags_of(name, rows[:end], *(it[:end] for it in columns))
         if end < len(rows):
@@ -202,11 +205,14 @@ class Sharded(AnyTable):
         return found
 
     def _flags_of(self, name: str, rows: Any, *columns: Any) -> Any:
-        shards = (rows >> np.uint64(SHARD_SHIFT)).astype(np.int64)
-        words = rows & np.uint64(IN_SHARD), *columns
-        blocks = list(blocks_of(shards))
+        with nothing_done():
+            shards = (rows >> np.uint64(SHARD_SHIFT)).astype(np.int64)
+            words = rows & np.uint64(IN_SHARD), *columns
+            blocks = list(blocks_of(shards))
+            found, is_done = np.zeros(len(rows), np.uint8), np.zeros(len(rows), bool)
+            spare = Spare()
         answers, errors = self._ask({shard: Cut(words, places) for shard, places in blocks}, name)
-        found, is_done = np.zeros(len(rows), np.uint8), np.zeros(len(rows), bool)
+        spare.give()
         for shard, places in blocks:
             error = errors.get(shard)
             if shard in answers:
@@ -351,12 +357,29 @@ def error_of(errors: dict[int, Any], shards: Any, is_done: Any, answers: Any = N
     lost = [errors[it] for it in sorted(errors) if isinstance(errors[it], ShardLost)]
     if lost:
         return lost[0].copied(answers)
+    errors = {it: of_memory(error) for it, error in errors.items()}
     first = int(np.argmin(is_done))
     error: Any = next((it for it in errors.values() if not isinstance(it, Error)), errors.get(int(shards[first])))
     if isinstance(error, Refused):
         error = refused(error.code, first, int(np.count_nonzero(is_done[first:])))
     error.answers = answers
     return error
+
+
+def of_memory(error: Any) -> Any:
+    """An error, or `OutOfMemory` for a MemoryError of Python or numpy."""
+    return refused(8) if isinstance(error, MemoryError) and not isinstance(error, Error) else error
+
+
+class Spare:
+    """Memory that is taken before a call changes anything, and given back if it fails: its error needs some."""
+
+    def __init__(self) -> None:
+        self._held: Optional[bytearray] = bytearray(SPARE)
+
+    def give(self) -> None:
+        """Gives the memory back."""
+        self._held = None
 
 
 def raise_first(errors: dict[int, Any]) -> None:

@@ -9,7 +9,7 @@ from typing import Any, Callable, Optional, Sequence
 from .arrays import Given, items_of, np, whole
 from .base import MOST_PARTS, POLICIES, POLICY, SHIFT
 from .decimals import PayloadType, Scaled, decimals_of
-from .errors import Error, Refused, refused
+from .errors import Error, Refused, nothing_done, refused
 from .keys import keys_for
 from .library import library
 from .local import HISTORY, MOST_CELLS, LocalShard
@@ -19,7 +19,7 @@ from .pool import processors, run_in_turn, run_side_by_side
 from .primitives import Answer, Steps
 from .progress import pieces_of, reporter
 from .routing import IN_SHARD, MOST_SHARDS, SHARD_SHIFT, Cut, Sharded, checked_splits, put_rows, shard_of
-from .rows import row_of
+from .rows import Row, row_of
 from .server import splits_of
 from .typed import Progress, RowNumbers, Self
 
@@ -258,20 +258,22 @@ class Table(TableHere, Sharded):
         Before any row is inserted, an object that will know the numbers of the inserted rows is added to `placed`.
         """
         if self.shards == 1:
-            placed.append(Placed(len(keys)))
+            with nothing_done():
+                placed.append(Placed(len(keys)))
             alone: RowNumbers = getattr(self._shards[0], how)(keys, payloads, placed[-1])
             return alone
         if len(keys) <= FEW_ITEMS:
             return self._place_in_turn(placed, keys, payloads)
-        found, rows = PlacedInShards(shard_of(self._shard_cuts, keys)), np.empty(len(keys), np.uint64)
+        with nothing_done():
+            found = PlacedInShards(shard_of(self._shard_cuts, keys))
         placed.append(found)
         cuts = {}
         for it, places in found.blocks:
-            cuts[it] = Cut((keys, payloads), places, (found.each[it],), partial(put_rows, rows, it, places))
+            cuts[it] = Cut((keys, payloads), places, (found.each[it],), partial(found.put, it, places))
         _, errors = self._ask(cuts, how)
         if errors:
             raise found.error(errors)
-        numbers: RowNumbers = rows
+        numbers: RowNumbers = found.numbers
         return numbers
 
     def _place_in_turn(self, placed: list[Any], keys: Any, payloads: Any) -> RowNumbers:
@@ -457,7 +459,9 @@ def holding(locks: Sequence[Any], steps: Steps[Answer]) -> Steps[Answer]:
 
 
 def _answer(shard: LocalShard, name: str, cut: Cut) -> Any:
-    answer = getattr(shard, name)(*cut.words())
+    with nothing_done():
+        words = cut.words()
+    answer = getattr(shard, name)(*words)
     if cut.heed is not None:
         cut.heed(answer)
     return answer

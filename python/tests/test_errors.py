@@ -76,8 +76,8 @@ class Kinds(unittest.TestCase):
         """Of each error of the package, with all that a call has added to it."""
         made = [errors.refused(code, 3, 4) for code in (*KINDS, *OTHERS)]
         made.append(crackd.CsvError("rows.csv", 3, 2, "price", "'x' isn't an integer"))
-        made += [it("words") for it in all_below(crackd.Error) if not any(isinstance(error, it) for error in made)
-                 and it.__name__ not in ("ShardLost", "LoadFailed")]
+        others = set(all_below(crackd.Error)) - {type(it) for it in made}
+        made += [it("words") for it in others if it.__name__ not in ("Refused", "ShardLost", "LoadFailed")]
         if cluster is not None:
             made.append(crackd.shard.LoadFailed(3, "it is gone"))
         made.append(errors.ShardLost(3, 5, None, "keys from 5", "it is gone"))
@@ -85,10 +85,9 @@ class Kinds(unittest.TestCase):
         self.assertEqual(set(all_below(crackd.Error)) - {type(it) for it in made}, set())
         for error in made:
             error.answers, error.row = [7, 8], crackd.Row(5, 7)
-            ways_to_copy = [copy.copy, copy.deepcopy]
-            ways_to_copy += [lambda it, at=at: pickle.loads(pickle.dumps(it, at)) for at in (0, 2, pickle.HIGHEST_PROTOCOL)]
-            for copied in ways_to_copy:
-                found = copied(error)
+            copies = [copy.copy(error), copy.deepcopy(error)]
+            copies += [pickle.loads(pickle.dumps(error, at)) for at in (0, 2, pickle.HIGHEST_PROTOCOL)]
+            for found in copies:
                 self.assertIs(type(found), type(error))
                 self.assertEqual((str(found), vars(found), found.args), (str(error), vars(error), error.args))
                 with self.assertRaises(type(error)):

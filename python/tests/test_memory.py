@@ -2,6 +2,7 @@
 
 import os
 import pathlib
+import random
 import subprocess
 import sys
 import tempfile
@@ -9,7 +10,8 @@ import threading
 import unittest
 from unittest import mock
 
-from ways import crackd, refusing, wants_gcc, wants_library, wants_numpy
+from amounts import amount
+from ways import crackd, refusing, wants_gcc, wants_library, wants_numpy, wants_shards
 
 from crackd import library
 
@@ -87,6 +89,45 @@ class Refusals(unittest.TestCase):
 
     def test_each_allocation_refused_in_turn(self):
         self.assertGreater(self.run_refused(str(STEPS_IN_TURN), "turn"), 50)
+
+
+@wants_shards
+class Limits(unittest.TestCase):
+    """Calls for many rows in several shards, with limits on the address space."""
+
+    RUNS = 400
+
+    def test_what_the_errors_say_was_done(self):
+        seed = int(os.environ.get("CRACKD_SEED") or random.SystemRandom().randrange(2**32))
+        print(f"{self.id()}: CRACKD_SEED={seed}", file=sys.stderr)
+        command = [sys.executable, str(HERE / "limited.py"), str(seed), str(amount(self.RUNS))]
+        how = {"env": ENVIRONMENT, "capture_output": True, "text": True, "timeout": SECONDS}
+        ran = subprocess.run(command, check=False, **how)
+        self.assertEqual((ran.returncode, ran.stderr), (0, ""))
+        refused, partly = map(int, ran.stdout.split())
+        # some had enough memory, some had none, and some were refused amid the rows
+        self.assertGreater(refused, amount(self.RUNS) // 20)
+        self.assertGreater(partly, amount(self.RUNS) // 80)
+
+    def test_errors_of_python(self):
+        """A MemoryError that isn't the library's is an `OutOfMemory` as well."""
+        for shards in (1, 3):
+            with crackd.Table(splits=[100, 200], shards=shards) as table:
+                rows = table.insert_many(range(300), range(300))
+                keys = [int(it) for it in range(300)]
+                for name, words in [("update_many", (rows, keys, keys)), ("delete_many", (rows,))]:
+                    for where in ("base.ints", "local.empty"):
+                        with mock.patch(f"crackd.{where}", side_effect=MemoryError), self.subTest(name, where=where):
+                            with self.assertRaises(crackd.OutOfMemory) as caught:
+                                getattr(table, name)(*words)
+                            self.assertEqual((caught.exception.done, caught.exception.later), (0, 0))
+                for where in ("base.ints", "placed.empty"):
+                    with mock.patch(f"crackd.{where}", side_effect=MemoryError), self.subTest(where=where):
+                        with self.assertRaises(crackd.OutOfMemory) as caught:
+                            table.insert_many(keys, keys)
+                        error = caught.exception
+                        self.assertEqual((error.done, error.later, list(error.answers)), (0, 0, []))
+                self.assertEqual((table.count(), table.sum()), (300, 299 * 150))
 
 
 @wants_library

@@ -176,7 +176,7 @@ class LostShards(unittest.TestCase):
         table, asked = cluster.Table.__new__(cluster.Table), []
         lost = cluster.ShardLost(1, 5, None, "keys from 5", LOST)
         table._lock, table._futures, table._tokens = threading.RLock(), [object()], ["first", "second"]
-        table._lost, table._actors = {1: lost}, ["an actor", "another"]
+        table._lost, table._actors, table._client = {1: lost}, ["an actor", "another"], mock.Mock(status="running")
         table._start = lambda shard, actor, *_: asked.append((shard, actor)) or shard
         table._result = lambda shard, *_: (table._tokens[shard], 7)
         cuts = {0: crackd.routing.Cut(()), 1: crackd.routing.Cut(())}
