@@ -2,7 +2,8 @@
 
 `Table` is a table in this process. `connect` connects to a table on a server, `serve` starts a server, and
 `crackd.cluster.Table` spreads a table over a Dask cluster. All tables have the same methods. Keys are integers, floats
-or numpy dates. Payloads are signed 64-bit integers. `load_csv` reads a table from a file. numpy is used if installed.
+or numpy dates. Payloads are signed 64-bit integers. `load_csv`, `from_pandas`, `from_arrow` and `from_arrays` make a
+table of the rows of a file, a frame, Arrow data and arrays. numpy is used if installed.
 """
 
 from .aio import AsyncTable, connect_async
@@ -32,7 +33,7 @@ from .rows import Rebalanced
 from .saved import BadSave
 from .server import NoServer, Server, serve
 from .source import CsvError
-from .table import Table
+from .table import Table, from_arrays, from_arrow, from_pandas
 
 __version__ = "0.1.0"
 
@@ -68,6 +69,9 @@ __all__ = [
     "__version__",
     "connect",
     "connect_async",
+    "from_arrays",
+    "from_arrow",
+    "from_pandas",
     "load_csv",
     "row_text",
     "serve",

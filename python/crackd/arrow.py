@@ -11,6 +11,7 @@ from ctypes import POINTER, byref, c_char_p, c_int, c_int64, c_void_p
 from typing import Any, Iterator, Optional, Sequence, Union
 
 from .arrays import np, whole
+from .gaps import Gap
 from .zones import Zoned, zone_name
 
 # the formats of columns that can be keys or payloads, with the numpy types of their items
@@ -96,13 +97,16 @@ def filled(stream: Stream, call: Any, it: Any) -> Any:
     return it
 
 
-def columns_of_stream(data: Any, wanted: Sequence[Union[str, int]]) -> list[Any]:
-    """Reads columns, by name or number, as numpy arrays. Raises ValueError with the place of the first missing item."""
+def columns_of_stream(data: Any, wanted: Sequence[Union[str, int]], has_gaps: bool = False) -> list[Any]:
+    """Reads columns, by name or number, as numpy arrays. Raises `Gap` with the place of the first missing item.
+
+    If `has_gaps` says that items may be missing, the arrays are masked arrays.
+    """
     # the capsule must live as long as the stream
     capsule = data.__arrow_c_stream__()
     with released(stream_of(capsule)) as stream:
         with released(filled(stream, stream.get_schema, Schema())) as schema:
-            columns = [Column(schema, it) for it in wanted]
+            columns = [Column(schema, it, has_gaps) for it in wanted]
         parts: list[Sequence[Any]] = [[it.empty() for it in columns]]
         before = 0
         while True:
@@ -114,9 +118,10 @@ def columns_of_stream(data: Any, wanted: Sequence[Union[str, int]]) -> list[Any]
 
 
 class Column:
-    """A column of a stream: the place of its items in a batch, and their type."""
+    """A column of a stream: the place of its items in a batch, and their type. With `has_gaps` items may be missing."""
 
-    def __init__(self, schema: Schema, wanted: Union[str, int]):
+    def __init__(self, schema: Schema, wanted: Union[str, int], has_gaps: bool = False):
+        self.has_gaps = has_gaps
         self.is_of_struct = text_of(schema.format) == STRUCT
         schemas = [it.contents for it in schema.children[: schema.n_children]] if self.is_of_struct else [schema]
         names = [text_of(it.name) for it in schemas]
@@ -132,7 +137,7 @@ class Column:
 
     def whole(self, parts: Sequence[Any]) -> Any:
         """The items of all batches."""
-        items = np.concatenate(parts)
+        items = (np.ma if self.has_gaps else np).concatenate(parts)
         return items if self.zone is None else Zoned(items, self.zone)
 
     def empty(self) -> Any:
@@ -146,26 +151,37 @@ class Column:
     def items(self, batch: Array, before: int) -> Any:
         """A copy of the column's items in a batch. `before` is the number of rows before the batch."""
         own = batch.children[self.place].contents if self.is_of_struct else batch
-        if self.is_of_struct:
+        if self.is_of_struct and not self.has_gaps:
             self.check_whole(batch, 0, batch.length, before)
         offset = own.offset + (batch.offset if self.is_of_struct else 0)
-        self.check_whole(own, offset - own.offset, batch.length, before)
+        if not self.has_gaps:
+            self.check_whole(own, offset - own.offset, batch.length, before)
         if not batch.length:
             return self.empty()
         size = np.dtype(self.dtype).itemsize
         text = ctypes.string_at(own.buffers[1] + offset * size, batch.length * size)
-        return self.typed(np.frombuffer(text, self.dtype))
+        items = self.typed(np.frombuffer(text, self.dtype))
+        return np.ma.masked_array(items, self.all_gaps(batch, own, offset)) if self.has_gaps else items
+
+    def all_gaps(self, batch: Array, own: Array, offset: int) -> Any:
+        """Which of the column's items in a batch are missing, or are in a row that is missing."""
+        gaps = self.gaps(own, offset - own.offset, batch.length)
+        return gaps | self.gaps(batch, 0, batch.length) if self.is_of_struct else gaps
 
     def check_whole(self, own: Array, more: int, length: int, before: int) -> None:
-        """Raises ValueError if one of the `length` items from the array's offset plus `more` on is missing."""
+        """Raises `Gap` if one of the `length` items from the array's offset plus `more` on is missing."""
+        gaps = self.gaps(own, more, length)
+        if gaps.any():
+            raise Gap(f"column {self.name!r} has a gap at row {before + int(np.argmax(gaps))}")
+
+    def gaps(self, own: Array, more: int, length: int) -> Any:
+        """Which of the `length` items from the array's offset plus `more` on are missing, as an array of bool."""
         valid = own.buffers[0] if own.n_buffers else None
         if own.null_count == 0 or not valid or not length:
-            return
+            return np.zeros(length, np.bool_)
         first = own.offset + more
         bits = np.frombuffer(ctypes.string_at(valid, (first + length + 7) // 8), np.uint8)
-        is_there = np.unpackbits(bits, bitorder="little")[first : first + length]
-        if not is_there.all():
-            raise ValueError(f"column {self.name!r} has a gap at row {before + int(np.argmin(is_there))}")
+        return np.unpackbits(bits, bitorder="little")[first : first + length] == 0
 
 
 def text_of(text: Optional[bytes]) -> str:

@@ -45,10 +45,11 @@ class AnyTable(Questions):
     Attributes
     ----------
     skipped : int
-        How many rows with a gap were left out by the call that made the table, or by the last `load_csv` into it.
+        How many rows with a gap were left out by the call that made the table from rows, or by the last `load_csv`
+        into it. Other tables don't have this attribute.
     """
 
-    skipped = 0
+    skipped: int
 
     def insert(self, key: Any, payload: Any) -> int:
         """Inserts a row. Returns its number."""

@@ -167,7 +167,8 @@ def read_columns(
         found = [array.array(column.code) for _, column in columns]
         for block in file.blocks(columns):
             for numbers, more in zip(found, block):
-                numbers.extend(more) if isinstance(more, (list, tuple, array.array)) else numbers.frombytes(more.tobytes())
+                is_listed = isinstance(more, (list, tuple, array.array))
+                numbers.extend(more) if is_listed else numbers.frombytes(more.tobytes())
     return found[0], numbered(len(found[0]), file.gaps) if payload is None else found[1]
 
 

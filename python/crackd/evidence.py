@@ -51,7 +51,8 @@ DATE_FORMS, CLOCK_FORMS, WHOLE_FORMS = ({it: form_of(it) for it in them} for the
 NUMBERS = re.compile(r"(?:^|\n)\s*([0-9]{1,4})[-/.]([0-9]{1,2})[-/.]([0-9]{1,4})\b")
 ZERO_FIRST = {".": re.compile(r"(?:^|\n)\s*[+-]?0\."), ",": re.compile(r"(?:^|\n)\s*[+-]?0,")}
 # the formats in the order in which a refusal names them
-ORDER = [date + it for date in DATES for it in ["", *(between + clock for between in BETWEEN for clock in CLOCKS)]] + WHOLES
+AFTER = ["", *(between + it for between in BETWEEN for it in CLOCKS)]
+ORDER = [date + it for date in DATES for it in AFTER] + WHOLES
 # how a number may be read: with this decimal sign, and perhaps with signs between groups of three digits
 READINGS = ((".", False), (".", True), (",", True))
 WIDE = decimal.Context(prec=400, traps=[])
@@ -246,7 +247,7 @@ class Evidence:
 
 
 def is_day(numbers: Sequence[int], form: str) -> bool:
-    """Whether the three numbers at the beginning of a date can be a day, a month and a year in the order of a format."""
+    """Whether the three numbers at the beginning of a date can be its day, month and year in the order of a format."""
     order = re.findall("%([dmyY])", form)
     found = dict(zip(order, numbers))
     return 1 <= found.get("m", 1) <= 12 and 1 <= found.get("d", 1) <= 31

@@ -6,6 +6,7 @@ from typing import Any
 
 from .arrays import items_of, np
 from .arrow import columns_of_stream
+from .gaps import Gap
 
 
 def columns_of(frame: Any, key: Any, payload: Any) -> tuple[Any, Any]:
@@ -22,17 +23,22 @@ def is_pandas(frame: Any) -> bool:
     return hasattr(frame, "index") and hasattr(frame, "iloc")
 
 
-def columns_of_pandas(frame: Any, key: Any = None, payload: Any = None) -> tuple[Any, Any]:
-    """The keys and payloads of a DataFrame or a Series. Raises ValueError with the place of the first missing value."""
+def columns_of_pandas(frame: Any, key: Any = None, payload: Any = None, *, has_gaps: bool = False) -> tuple[Any, Any]:
+    """The keys and payloads of a DataFrame or a Series.
+
+    Raises `Gap` with the place of the first missing value, unless `has_gaps` says that values may be missing; then
+    columns are returned as the frame has them.
+    """
     if np is None or not is_pandas(frame):
         raise TypeError(f"from_pandas takes a DataFrame or a Series, not one of type {type(frame).__name__}")
+    read = checked_column if has_gaps else whole_column
     if key is None:
-        keys = whole_column(frame, frame.index, "the index")
+        keys = read(frame, frame.index, "the index")
     else:
-        keys = whole_column(frame, column(frame, key), f"column {key!r}")
+        keys = read(frame, column(frame, key), f"column {key!r}")
     if payload is not None:
-        return keys, whole_column(frame, column(frame, payload), f"column {payload!r}")
-    return keys, range(len(keys)) if hasattr(frame, "columns") else whole_column(frame, frame, "the series")
+        return keys, read(frame, column(frame, payload), f"column {payload!r}")
+    return keys, range(len(keys)) if hasattr(frame, "columns") else read(frame, frame, "the series")
 
 
 def column(frame: Any, name: Any) -> Any:
@@ -45,24 +51,33 @@ def column(frame: Any, name: Any) -> Any:
     return found
 
 
-def whole_column(frame: Any, found: Any, name: str) -> Any:
-    """The items of a column or an index, of which none may be missing. `name` is its name in errors."""
+def checked_column(frame: Any, found: Any, name: str) -> Any:
+    """A column or an index, which has one level."""
     if getattr(found, "nlevels", 1) != 1:
         raise TypeError("an index of several levels can't be the keys")
+    return found
+
+
+def whole_column(frame: Any, found: Any, name: str) -> Any:
+    """The items of a column or an index, of which none may be missing. `name` is its name in errors."""
+    checked_column(frame, found, name)
     is_missing = np.asarray(found.isna())
     if is_missing.any():
         place = int(np.argmax(is_missing))
         where = f"row {place}" + ("" if found is frame.index else f", index {frame.index[place]!r}")
-        raise ValueError(f"{name} has a gap at {where}")
+        raise Gap(f"{name} has a gap at {where}")
     return items_of(found, name)
 
 
-def columns_of_arrow(data: Any, key: Any = 0, payload: Any = None) -> tuple[Any, Any]:
-    """The keys and payloads of an object with an Arrow stream. Without `payload` the payloads are 0, 1, 2 .."""
+def columns_of_arrow(data: Any, key: Any = 0, payload: Any = None, *, has_gaps: bool = False) -> tuple[Any, Any]:
+    """The keys and payloads of an object with an Arrow stream. Without `payload` the payloads are 0, 1, 2 ..
+
+    Raises `Gap` if an item is missing, unless `has_gaps` says that it may be; then masked arrays are returned.
+    """
     if np is None:
         raise ImportError("Arrow's data needs numpy: pip install numpy")
     if not hasattr(data, "__arrow_c_stream__"):
         raise TypeError(f"from_arrow takes data with a stream of Arrow, not one of type {type(data).__name__}")
     wanted = [0 if key is None else key] + ([] if payload is None else [payload])
-    found = columns_of_stream(data, wanted)
+    found = columns_of_stream(data, wanted, has_gaps)
     return found[0], range(len(found[0])) if payload is None else found[1]

@@ -105,7 +105,8 @@ def load_csv(
     if into is None:
         into = new_table(keys, payloads, found, progress, options)
     else:
-        keys, payloads = known(keys, found.key_column, into._keys), known(payloads, found.payload_column, into._payloads)
+        keys = known(keys, found.key_column, into._keys)
+        payloads = known(payloads, found.payload_column, into._payloads)
         into.insert_rows(keys, payloads, progress=progress)
         into.settle()
     into.skipped = skipped

@@ -3,12 +3,14 @@
 from __future__ import annotations
 
 import abc
-from typing import Any, Iterator, Optional, TypeVar, overload
+from typing import Any, Callable, Iterator, Optional, TypeVar, overload
 
+from .arrays import items_of
 from .asked import text_of_found
 from .base import AnyTable
 from .decimals import keys_with_decimals, payloads_with_decimals
 from .frames import columns_of_arrow, columns_of_pandas
+from .gaps import Gap, is_skipping, whole_rows
 from .saved import read_saved
 from .typed import Progress, Self
 
@@ -16,11 +18,17 @@ Other = TypeVar("Other", bound=AnyTable)
 
 
 class TableHere(AnyTable):
-    """A table in this process."""
+    """A table in this process.
+
+    Attributes
+    ----------
+    found : dict
+        How the file was read that `load_csv` made the table of: arguments of `load_csv` that read another file in the
+        same way. Other tables don't have this attribute.
+    """
 
     _is_here = True
-    # the arguments of `load_csv` that read the file in the same way
-    found: Optional[dict[str, Any]] = None
+    found: dict[str, Any]
     shards: int
     partitions: int
 
@@ -38,6 +46,7 @@ class TableHere(AnyTable):
         *,
         key_decimals: Optional[int] = None,
         payload_decimals: Optional[int] = None,
+        missing: str = "error",
         **options: Any,
     ) -> Self:
         """Creates a table of the rows of a DataFrame or Series and merges them all.
@@ -51,13 +60,16 @@ class TableHere(AnyTable):
         key_decimals, payload_decimals : int, optional
             The numbers of decimal places: see `Table`. By default these are the most that occur in a column of floats
             or decimals, if that are at most 9. Keys without such places stay floats, and payloads are refused.
+        missing : str, optional
+            "skip" leaves out rows whose key or payload is missing, and `skipped` of the table says how many. "error"
+            raises an error.
         **options
             Parameters of `Table`, and `progress` of `from_arrays`.
 
         Returns
         -------
         Table
-            Its `row_numbers` are the numbers of the rows, in the order of the frame.
+            Its `row_numbers` are the numbers of the rows, in the order of the frame. Rows that are left out have none.
 
         Raises
         ------
@@ -66,23 +78,38 @@ class TableHere(AnyTable):
 
         Notes
         -----
-        Nullable integer columns are accepted if no value is missing. Dates with a time zone become UTC.
+        Nullable integer columns are accepted. Dates with a time zone become UTC.
         """
-        found = columns_of_pandas(frame, key, payload)
-        return cls._from_columns(found, key_decimals, payload_decimals, options)
+        words = (frame, key, payload)
+        return cls._from_columns(columns_of_pandas, words, key_decimals, payload_decimals, missing, options)
 
     @classmethod
     def _from_columns(
-        cls, found: tuple[Any, Any], key_decimals: Optional[int], payload_decimals: Optional[int], options: Any
+        cls,
+        read: Callable[..., Any],
+        words: tuple[Any, ...],
+        key_decimals: Optional[int],
+        payload_decimals: Optional[int],
+        missing: str,
+        options: Any,
     ) -> Self:
-        """Creates a table of columns, and finds the decimal places that aren't given."""
-        keys, payloads = found
+        """Creates a table of columns, which a function reads, and finds the decimal places that aren't given."""
+        skipped = 0
+        try:
+            keys, payloads = read(*words, has_gaps=is_skipping(missing))
+        except Gap as gap:
+            raise gap.hinted() from None
+        if is_skipping(missing):
+            keys, payloads, skipped = whole_rows(keys, payloads)
+            keys, payloads = items_of(keys, "keys"), items_of(payloads, "payloads")
         if key_decimals is None and options.get("key_type") is None:
             keys = keys_with_decimals(keys)
         if payload_decimals is None:
             payloads = payloads_with_decimals(payloads)
         options |= {"key_decimals": key_decimals, "payload_decimals": payload_decimals}
-        return cls.from_arrays(keys, payloads, **options)
+        table = cls.from_arrays(keys, payloads, **options)
+        table.skipped = skipped
+        return table
 
     @classmethod
     def from_arrow(
@@ -93,6 +120,7 @@ class TableHere(AnyTable):
         *,
         key_decimals: Optional[int] = None,
         payload_decimals: Optional[int] = None,
+        missing: str = "error",
         **options: Any,
     ) -> Self:
         """Creates a table of the rows of Arrow data and merges them all.
@@ -105,6 +133,8 @@ class TableHere(AnyTable):
             The columns, by name or number. Without `payload` the payloads are 0, 1, 2 ..
         key_decimals, payload_decimals : int, optional
             Those of `from_pandas`.
+        missing : str, optional
+            That of `from_pandas`.
         **options
             Parameters of `Table`, and `progress` of `from_arrays`.
 
@@ -113,8 +143,8 @@ class TableHere(AnyTable):
         Table
             Its `row_numbers` are the numbers of the rows, in the order of the data.
         """
-        found = columns_of_arrow(data, key, payload)
-        return cls._from_columns(found, key_decimals, payload_decimals, options)
+        words = (data, key, payload)
+        return cls._from_columns(columns_of_arrow, words, key_decimals, payload_decimals, missing, options)
 
     @overload
     @classmethod
@@ -149,7 +179,7 @@ class TableHere(AnyTable):
         """About how many bytes of memory the rows take."""
 
     def _facts(self) -> Iterator[tuple[str, str]]:
-        if self.found is not None:
+        if hasattr(self, "found"):
             yield "of", text_of_found(self.found)
         if self.shards > 1:
             yield "shards", str(self.shards)

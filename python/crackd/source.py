@@ -1,4 +1,4 @@
-"""The text of a CSV file, which may be compressed, and of file objects. It can be read from its start again and again."""
+"""The text of a CSV file, which may be compressed, or of a file object. It can be read from its start again."""
 
 from __future__ import annotations
 

@@ -10,6 +10,7 @@ from .arrays import Given, items_of, np, whole
 from .base import MOST_PARTS, POLICIES, POLICY, SHIFT
 from .decimals import PayloadType, Scaled, decimals_of
 from .errors import Error, Refused, nothing_done, refused
+from .gaps import taking_gaps
 from .keys import keys_for
 from .library import library
 from .local import HISTORY, MOST_CELLS, LocalShard
@@ -164,6 +165,7 @@ class Table(TableHere, Sharded):
             self._parts = np.array([*(it.partitions for it in self._shards), 0], np.uint64)
 
     @classmethod
+    @taking_gaps
     def from_arrays(
         cls,
         keys: Any,
@@ -183,6 +185,9 @@ class Table(TableHere, Sharded):
             The default is 0, 1, 2 ..
         key_decimals, payload_decimals : int, optional
             Those of `Table`. Floats and decimals need them.
+        missing : str, optional
+            "skip" leaves out rows whose key or payload is missing: masked, None, NaN, NaT or NA. `skipped` of the table
+            says how many. "error" raises an error.
         progress : bool or callable, optional
             True reports progress on standard error. A function is called with the number of rows inserted so far and
             the number of all rows.
@@ -445,6 +450,10 @@ class Table(TableHere, Sharded):
 
 for _name in ("insert_many", "insert_rows", "move"):
     getattr(Table, _name).__doc__ = getattr(Sharded, _name).__doc__
+
+
+# what everybody types first
+from_arrays, from_pandas, from_arrow = Table.from_arrays, Table.from_pandas, Table.from_arrow
 
 
 def holding(locks: Sequence[Any], steps: Steps[Answer]) -> Steps[Answer]:

@@ -1,7 +1,7 @@
 """Reads dates and times whose fields are in the order year, month, day.
 
-A date is 2020-01-31 or 2020/1/31. A time follows after T or a blank: 12, 12:30, 12:30:05 or 12:30:05.123456789, with Z or
-an offset such as +01:00 after it or without.
+A date is 2020-01-31 or 2020/1/31. A time follows after T or a blank: 12, 12:30, 12:30:05 or 12:30:05.123456789, with Z
+or an offset such as +01:00 after it or without.
 """
 
 from __future__ import annotations
@@ -15,7 +15,8 @@ from .arrays import SIGN, np
 
 FIELD = re.compile(
     r"\s*([0-9]{4})([-/])([0-9]{1,2})\2([0-9]{1,2})"
-    r"(?:[T ]([0-9]{1,2})(?::([0-9]{2})(?::([0-9]{2})(?:[.,]([0-9]{1,9}))?)?)?(?: ?(Z|[+-][0-9]{2}(?::?[0-9]{2})?))?)?\s*",
+    r"(?:[T ]([0-9]{1,2})(?::([0-9]{2})(?::([0-9]{2})(?:[.,]([0-9]{1,9}))?)?)?"
+    r"(?: ?(Z|[+-][0-9]{2}(?::?[0-9]{2})?))?)?\s*",
     re.ASCII,
 )
 # the units of dates, with their number in a second

@@ -1,6 +1,7 @@
 """The programs of docs/PYTHON.md, run one after the other over a server."""
 
 import asyncio
+import decimal
 import importlib.util
 import os
 import pathlib
@@ -41,7 +42,7 @@ class Page(unittest.TestCase):
         if importlib.util.find_spec("pandas") is not None:
             exec(frames, names)
         exec(files, names)
-        self.assertEqual((names["table"].count(), names["table"].sum()), (3, 3724))
+        self.assertEqual((names["table"].count(), names["table"].sum()), (3, decimal.Decimal("1274.74")))
         with crackd.Table.load("rows.npy") as loaded:
             self.assertEqual((len(loaded), loaded.sum()), (500_000, 500_000 * 499_999 // 2))
         exec(rows, names)
