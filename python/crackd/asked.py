@@ -77,7 +77,8 @@ class Found:
                 found[f"{name}_format"] = column.format
             elif column.is_float or column.code == "Q":
                 found[f"{name}_type"] = "float64" if column.is_float else "uint64"
-            if column.format is None and not column.is_float:
+            # `load_csv` takes no exponents where the decimal places are given
+            if column.format is None and not column.is_float and not column.is_scientific:
                 found[f"{name}_decimals"] = column.decimals
             if column.is_grouped:
                 found["decimal"] = column.sign
@@ -96,8 +97,9 @@ def text_of_found(found: dict[str, Any]) -> str:
 
 def how_text(found: dict[str, Any], name: str) -> str:
     """How a column is read, in brackets."""
-    form, decimals = found.get(f"{name}_format"), found.get(f"{name}_decimals", 0)
+    form, decimals = found.get(f"{name}_format"), found.get(f"{name}_decimals")
     if form is not None:
         return " (year, month, day)" if form == YMD else f" ({form})"
-    places = f"{decimals} decimal place{'s' * (decimals != 1)}" if decimals else "integers"
-    return f" ({'floats' if found.get(f'{name}_type') == 'float64' else places})"
+    if decimals is None:
+        return " (floats)" if f"{name}_type" in found else " (decimals with exponents)"
+    return f" ({decimals} decimal place{'s' * (decimals != 1)})" if decimals else " (integers)"

@@ -217,7 +217,7 @@ class Evidence:
 
     def _look_at_number(self, field: str, shape: str) -> None:
         """Looks at an integer of many digits, or at an exponent."""
-        if re.fullmatch(r"\s*[+-]?1+\s*", shape):
+        if len(shape) > MOST_DIGITS and re.fullmatch(r"\s*[+-]?1+\s*", shape):
             number = int(field) if len(shape) < MOST_OF_A_DATE else 10**MOST_OF_A_DATE
             self.least, self.greatest = min(self.least, number), max(self.greatest, number)
         elif shape_of(shape).is_scientific:

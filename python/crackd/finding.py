@@ -208,22 +208,27 @@ class Finder:
         return "the first record is a header by some of its columns, and none by others"
 
     def _better(self, columns: Columns, choice: Choice) -> Optional[Choice]:
-        """The choice that a refusal proposes: with other columns in place of those that can't be read."""
-        key, payload = choice.key, choice.payload
-        places = range(len(columns.all))
-        if choice.key_verdict.column is None:
-            fit = [it for it in places if self._verdict(columns, it, self.asked.key).column is not None]
-            free = [it for it in fit if it != payload or choice.payload_verdict.column is None]
-            if not free:
-                return None
-            key = next((it for it in free if columns.at(it).is_dates), free[0])
-        if payload is not None and choice.payload_verdict.column is None:
-            fit = [it for it in places if self._verdict(columns, it, self.asked.payload).column is not None]
-            free = [it for it in fit if it != key]
-            if not free:
-                return None
-            payload = next((it for it in free if not columns.at(it).is_dates), free[0])
-        return self._judged(columns, key, payload)
+        """The choice that a refusal proposes: columns that are given if they can be read, and else others that can."""
+        if choice.key_verdict.column is not None and choice.payload_verdict.column is not None:
+            return choice
+        is_kept = self.asked.key.place is not FOUND and choice.key_verdict.column is not None
+        taken = choice.payload if self._is_kept_payload(choice) else None
+        key = choice.key if is_kept else self._fit(columns, self.asked.key, taken, True)
+        payload = choice.payload
+        if payload is not None and not self._is_kept_payload(choice):
+            payload = self._fit(columns, self.asked.payload, key, False)
+            return None if key is None or payload is None else self._judged(columns, key, payload)
+        return None if key is None else self._judged(columns, key, payload)
+
+    def _is_kept_payload(self, choice: Choice) -> bool:
+        """Whether the column of the payloads is given and can be read."""
+        return self.asked.payload.place is not FOUND and choice.payload_verdict.column is not None
+
+    def _fit(self, columns: Columns, role: Role, taken: Optional[int], has_dates: bool) -> Optional[int]:
+        """The first column that can be read in a role and isn't taken, if possible one with dates, or without them."""
+        places = [it for it in range(len(columns.all)) if it != taken]
+        fit = [it for it in places if self._verdict(columns, it, role).column is not None]
+        return next((it for it in fit if columns.at(it).is_dates == has_dates), next(iter(fit), None))
 
     def _is_read_by(self, columns: Columns, choice: Choice, sign: str) -> bool:
         """Whether both columns can be read with this decimal sign."""

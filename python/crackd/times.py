@@ -131,6 +131,8 @@ def of_width(letters: Any, unit: str, is_zoned: bool) -> Any:
     if not all_true(them.rows[7] == them.rows[4]):
         raise ValueError("a field of another form")
     seconds = days_of(them.number(0, 4), them.number(5, 2), them.number(8, 2)).astype(np.int64) * 86_400
+    if end < 13 and is_zoned:
+        raise ValueError("a zone without a time")
     if end > 10:
         them.expect(10, "T ")
         seconds += clock_of(them, end)
