@@ -633,7 +633,10 @@ class Reading(unittest.TestCase):
             if "text" in one.first or "text" in other.first:
                 self.assertEqual(one.first["text"], other.first["text"])
                 continue
-            for name in ("first", "wrong", "zero", "zoned", "fraction", "formats", "least", "greatest", "is_scientific"):
+            self.assertEqual(one.first, other.first)
+            if "number" in one.first and {"time", "date"} & one.first.keys():
+                continue
+            for name in ("wrong", "zero", "zoned", "fraction", "formats", "least", "greatest", "is_scientific"):
                 self.assertEqual(getattr(one, name), getattr(other, name), (name, fields))
 
     def test_shapes(self):
