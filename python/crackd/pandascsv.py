@@ -83,7 +83,7 @@ def look_at(file: Any, is_strict: bool) -> Optional[Looks]:
     At a zero character pandas would end a field. A carriage return alone ends a line, but pandas may shift the fields
     after it. Only with `is_strict` leading zeros are looked for, which pandas would read.
     """
-    before, has_zeros = "\n", False
+    before, has_zeros = "\n\n", False
     with file.source.text() as text:
         while more := text.read(CHARACTERS_AT_ONCE):
             if "\0" in more or has_return(before, more):

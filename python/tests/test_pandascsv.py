@@ -3,6 +3,7 @@
 import array
 import contextlib
 import itertools
+import os
 import pathlib
 import random
 import tempfile
@@ -71,11 +72,21 @@ class FieldsByPandas(ByPandas, test_lines.Fields):
     """The cases of fields."""
 
 
-@wants_pandas
-class Alike(unittest.TestCase):
-    """Whatever is in a file, it is read as it is without pandas."""
+# how many files are drawn: all of them, or a tenth
+FILES = 20_000 if os.environ.get("CRACKD_TESTS") == "all" else 2_000
+ENDS = ["\n", "\r\n", "\r"]
+DRAWN = ["0", "7", "-7", "+7", "12", "007", "-0", "00", "0.5", "1.25", "-3.125", "1e3", "", "", " 5", "NA", '"5"', '"5,6"']
+DRAWN += ['"\r"', '"5\n6"', "x", str(2**63), "2020-01-02", '""', "1,5", "1.234", "#", "1;2"]
+
+
+class WithFiles(unittest.TestCase):
+    """Cases with a file of their own, which is read with and without pandas."""
 
     COLUMNS = {
+        "strict": csvfile.Column(is_strict=True),
+        "strict decimals": csvfile.Column(decimals=2, is_strict=True),
+        "a comma": csvfile.Column(decimals=1, sign=",", is_grouped=True),
+        "ymd": csvfile.Column(format="ymd"),
         "int64": csvfile.Column(),
         "uint64": csvfile.Column(least=0, most=2**64 - 1),
         "float64": csvfile.Column(is_float=True),
@@ -89,30 +100,110 @@ class Alike(unittest.TestCase):
         self.addCleanup(room.cleanup)
         self.path, self.read = pathlib.Path(room.name) / "rows.csv", 0
 
-    def found(self, column, place, delimiter, header, is_there):
+    def found(self, column, place, delimiter, header, is_there, *how):
         """What is read of the file: lists of numbers, or an error."""
-        file = csvfile.CsvFile(self.path, delimiter, header, "utf-8-sig")
+        file = csvfile.CsvFile(self.path, delimiter, header, "utf-8-sig", *how)
         with by_pandas(is_there):
             try:
                 them = csvfile.read_columns(file, place, column, 1 - place, csvfile.Column())
-            except (crackd.CsvError, UnicodeDecodeError) as error:
+            except crackd.CsvError as error:
                 return str(error)
-        return [repr(np.asarray(it).tolist()).replace("-0.0", "0.0") for it in them]
+        numbers = [repr(np.asarray(it).tolist()).replace("-0.0", "0.0") for it in them]
+        return [*numbers, np.asarray(file.gaps).tolist()]
 
-    def expect(self, text, column, place=0, delimiter=",", header=None):
+    def expect(self, text, column, place=0, delimiter=",", header=None, *how):
         self.path.write_bytes(text if isinstance(text, bytes) else text.encode("utf-8", "surrogatepass"))
-        wanted = self.found(column, place, delimiter, header, False)
-        self.assertEqual(self.found(column, place, delimiter, header, True), wanted, text)
-        file = csvfile.CsvFile(self.path, delimiter, header, "utf-8-sig")
-        with by_pandas(), contextlib.suppress(crackd.CsvError, UnicodeDecodeError):
+        wanted = self.found(column, place, delimiter, header, False, *how)
+        self.assertEqual(self.found(column, place, delimiter, header, True, *how), wanted, text)
+        file = csvfile.CsvFile(self.path, delimiter, header, "utf-8-sig", *how)
+        with by_pandas(), contextlib.suppress(crackd.CsvError):
             self.read += pandascsv.columns_of_pandas(file, [(place, column), (1 - place, csvfile.Column())]) is not None
+
+
+@wants_pandas
+class Generated(WithFiles):
+    """Files that are drawn by chance: line ends, headers, empty fields, gaps, quotes and short records."""
+
+    def test_files(self):
+        drawn = random.Random(2026)
+        columns = list(self.COLUMNS.values())
+        for number in range(FILES):
+            delimiter, end = drawn.choice(",,,;\t"), drawn.choice(ENDS)
+            good = drawn.random() < 0.6
+            lines = [self.line(drawn, delimiter, good) for _ in range(drawn.randrange(5))]
+            has_header = drawn.random() < 0.5
+            lines = [delimiter.join(drawn.sample(["a", "b", "", "key", '"c"', "7"], 2))] * has_header + lines
+            text = end.join(lines) + end * drawn.choice([0, 1, 1, 1, 2])
+            if drawn.random() < 0.05:
+                text = text.replace(end, drawn.choice(ENDS), 1)
+            header = drawn.choice([has_header, has_header, None])
+            words = drawn.choice(columns), drawn.randrange(2), delimiter, header, drawn.random() < 0.5
+            with self.subTest(number=number, words=words):
+                self.expect(text, *words)
+        self.assertGreater(self.read, FILES // 20)
+
+    @staticmethod
+    def line(drawn, delimiter, good):
+        """A record: of integers, or of whatever there may be."""
+        if drawn.random() < 0.03:
+            return ""
+        count = 2 if good else drawn.choice([1, 2, 2, 2, 2, 3])
+        fields = [str(drawn.randrange(-20, 21)) if good else drawn.choice(DRAWN) for _ in range(count)]
+        if drawn.random() < 0.1:
+            fields[drawn.randrange(count)] = ""
+        return delimiter.join(fields)
+
+    def test_carriage_returns(self):
+        """A file with a header and an empty first field, whose lines end with a carriage return."""
+        for end, header, count in itertools.product(ENDS, ("a,b", "a,b,c", ""), (1, 2, 5)):
+            for first in ("", "1"):
+                text = end.join([header, f"{first},10,100", *["2,20,200"] * count])
+                for how in (False, True):
+                    self.expect(text, csvfile.Column(), 0, ",", bool(header), how)
+                    self.expect(text, csvfile.Column(), 1, ",", bool(header), how)
+
+
+@wants_pandas
+class Zeros(unittest.TestCase):
+    """Leading zeros of integers in a text."""
+
+    def test_each_field(self):
+        for field, is_zero in {
+            "007": True, "-007": True, "+00": True, "0": False, "-0": False, "0.5": False, "10": False, "1007": False,
+            "00:15": False, "2020-01-02": False, "2020-01-02 03:04": False, "x01": False, " 07": True, "01 ": True,
+            "00.5": False, '"01"': True, "0" * 60 + "1": True, "1 02": False, "0x1": False, "01x": False,
+        }.items():
+            for delimiter, others, end in itertools.product(",;|\t", (0, 1, 30), ("\n", "\r\n")):
+                rows = [delimiter.join(["5", "0", "2020-01-02 00:00:00"])] * others
+                for fields in ([field, "5"], ["5", field], ["5", field, "6"]):
+                    for text in ([*rows, delimiter.join(fields)], [delimiter.join(fields), *rows]):
+                        said = "\n\n" + end.join(text) + end
+                        self.assertEqual(pandascsv.has_leading_zeros(said, delimiter), is_zero, said)
+
+    def test_chunks(self):
+        with tempfile.TemporaryDirectory() as room:
+            path = pathlib.Path(room) / "rows.csv"
+            for text, has_zeros in [("1,2\n3,4\n", False), ("1,2\n3,04", True), ("10,200\n,0\n", False), ("01,2", True)]:
+                path.write_text(text, encoding="ascii")
+                for size in range(1, 12):
+                    with mock.patch.object(pandascsv, "CHARACTERS_AT_ONCE", size):
+                        file = csvfile.CsvFile(path, ",", False, "utf-8")
+                        self.assertEqual(pandascsv.look_at(file, True), (has_zeros,), text)
+                        self.assertEqual(pandascsv.look_at(file, False), (False,))
+
+
+@wants_pandas
+class Alike(WithFiles):
+    """Whatever is in a file, it is read as it is without pandas."""
 
     def test_each_field(self):
         for name, column in self.COLUMNS.items():
-            good = "2020-01-01" if name == "date" else "3"
+            good = "2020-01-01" if name in ("date", "ymd") else "3"
             self.read = 0
-            for field, place in itertools.product(DATES if name == "date" else FIELDS, (0, 1)):
-                for before, after in itertools.product((0, 2), (0, 1)):
+            for field, place in itertools.product(DATES if name in ("date", "ymd") else FIELDS, (0, 1)):
+                # fewer places for columns whose fields are much like those of others
+                is_new = name in ("strict", "strict decimals", "a comma", "ymd")
+                for before, after in [(0, 1), (2, 0)] if is_new else itertools.product((0, 2), (0, 1)):
                     lines = [[good, "4"]] * before + [[field, "5"]] + [[good, "6"]] * after
                     with self.subTest(name, field=field, place=place, before=before, after=after):
                         self.expect("".join(",".join(it[:: 1 - 2 * place]) + "\n" for it in lines), column, place)
