@@ -133,6 +133,11 @@ class Column:
         return found if len(found) == len(fields) and self.least <= min(found) else None
 
     @property
+    def has_offsets(self) -> bool:
+        """Whether the fields are times with an offset from UTC."""
+        return self.is_zoned or "%z" in (self.format or "")
+
+    @property
     def code(self) -> str:
         """The type code of the numbers in the module `array`."""
         return "d" if self.is_float else "q" if self.format is not None or self.least < 0 else "Q"

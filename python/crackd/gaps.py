@@ -11,6 +11,7 @@ import itertools
 from typing import Any, Callable
 
 from .arrays import Given, np
+from .zones import Zoned
 
 WAYS = ("error", "skip")
 HINT = "missing='skip' leaves out rows with a gap"
@@ -86,6 +87,8 @@ def listed(items: Any) -> Any:
 
 def gaps_in(items: Any) -> Any:
     """Which items are missing, as an array or a list of bool, or None if surely none is."""
+    if isinstance(items, Zoned):
+        return gaps_in(items.dates)
     if isinstance(items, (Given, range, str, bytes, bytearray, memoryview)):
         return None
     if hasattr(items, "isna"):
@@ -117,6 +120,8 @@ def is_missing(item: Any) -> bool:
 
 def taken(items: Any, kept: Any) -> Any:
     """The items that are kept."""
+    if isinstance(items, Zoned):
+        return Zoned(taken(items.dates, kept), items.zone)
     if isinstance(items, range) and np is not None:
         items = np.asarray(items)
     if np is None or not hasattr(items, "__array__"):

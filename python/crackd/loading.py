@@ -16,6 +16,7 @@ from .gaps import is_skipping
 from .source import CsvError, Source
 from .table import Table
 from .typed import Progress
+from .zones import Zoned
 
 MOST_DECIMALS = 40
 KINDS = {"int64": "i", "uint64": "u", "float64": "f", int: "i", float: "f"}
@@ -66,7 +67,8 @@ def load_csv(
     key_format, payload_format : str, optional
         Formats of `datetime.strptime`, for dates in another order than year, month, day, or "ymd" for this order. Such
         keys are datetime64[us] if numpy is installed, or datetime64[ns] if there are more than 6 digits after a second,
-        else integers; such payloads are always integers, in these units since 1970. An offset from UTC is respected.
+        else integers; such payloads are always integers, in these units since 1970. Times with an offset from UTC
+        make a table whose zone is UTC.
     decimal : str, optional
         The decimal sign, "." or ",". If it is given, groups of three digits may be divided, by the other of the two
         signs, a blank or an apostrophe.
@@ -165,6 +167,7 @@ def read_as(source: Source, asked: Asked, found: Found) -> tuple[Any, Any, Found
         keys = np.array(keys)
         if found.key_column.format is not None:
             keys = keys.view(f"datetime64[{found.key_column.unit}]")
+            keys = Zoned(keys, "UTC") if found.key_column.has_offsets else keys
     return keys, payloads, found, len(file.gaps)
 
 
@@ -179,7 +182,10 @@ def with_encoding(source: Source, asked: Asked, error: CsvError) -> CsvError:
 
 def new_table(keys: Any, payloads: Any, found: Found, progress: Progress, options: dict[str, Any]) -> Table:
     """A table of the rows of a file."""
-    kind = keys.dtype if np is not None else {"d": "float64", "Q": "uint64", "q": "int64"}[keys.typecode]
+    if isinstance(keys, Zoned):
+        kind = None
+    else:
+        kind = keys.dtype if np is not None else {"d": "float64", "Q": "uint64", "q": "int64"}[keys.typecode]
     keys, payloads = scaled(keys, found.key_column), scaled(payloads, found.payload_column)
     table = Table.from_arrays(keys, payloads, key_type=kind, progress=progress, **options)
     table.found = found.arguments()
