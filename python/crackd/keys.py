@@ -31,6 +31,7 @@ from .decimals import (
     Scaled,
     ceiling_of,
     checked_decimals,
+    decimals_of,
     end_of,
     is_unsigned,
     scaled_many,

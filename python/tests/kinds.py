@@ -6,6 +6,7 @@ import datetime
 import decimal
 import fractions
 import math
+import zoneinfo
 from typing import Any
 
 from ways import np
@@ -38,6 +39,17 @@ class Kind:
     wrong_ends: list
     dtype: Any = None
     arrays: Any = ()
+    decimals: int = 0
+    zone: Any = None
+
+    @property
+    def options(self):
+        """What the opening of a table gets besides the type of the keys."""
+        return {"key_decimals": self.decimals} if self.decimals else {"zone": self.zone} if self.zone else {}
+
+    def exact(self, key):
+        """The exact value of a key that `raw=True` returned."""
+        return value(key) / 10**self.decimals if self.decimals else value(key)
 
     def given(self, keys):
         """Keys as a table gets them."""
@@ -50,7 +62,7 @@ class Kind:
             return isinstance(exact, float) or abs(exact) <= LARGEST_FLOAT and float(exact) == exact
         if self.key_type in ("int64", "uint64"):
             least, greatest = (LEAST, GREATEST) if self.key_type == "int64" else (0, UNSIGNED)
-            return least <= exact <= greatest
+            return least <= exact * 10**self.decimals <= greatest
         return exact in map(value, at_most(exact, self.key_type))
 
     @property
@@ -89,6 +101,8 @@ def value(it):
         return days_before(it.year, it.month) * 86_400 + (it.day - 1) * 86_400
     if np is not None and isinstance(it, np.datetime64):
         return moment(it)
+    if isinstance(it, decimal.Decimal) and it.is_infinite():
+        return math.copysign(math.inf, it)
     found = it.item() if np is not None and isinstance(it, np.generic) else it
     return found if isinstance(found, float) and math.isinf(found) else fractions.Fraction(found)
 
@@ -180,12 +194,46 @@ def wrong_of_numpy(dtype):
     return wrong + [(np.float64(1), TypeError), (np.int64(-1) if kind == "u" else np.uint64(2**63), OverflowError)]
 
 
+# Decimals
+
+DECIMALS = [LEAST, LEAST + 1, -EXACT - 1, -110, -1, 0, 1, 29, 1010, EXACT + 1, GREATEST - 1, GREATEST]
+NO_DECIMALS = [(it, error) for it, error in NO_KEYS if not isinstance(it, decimal.Decimal)]
+NO_DECIMALS += [(it, ValueError) for it in (0.125, -0.001, SMALLEST_FLOAT, THIRD, math.nan, decimal.Decimal("NaN"))]
+NO_DECIMALS += [(decimal.Decimal(it), ValueError) for it in ("0.001", "1E-999999", "12345678901234567890.125")]
+NO_DECIMALS += [(it, OverflowError) for it in (LEAST, GREATEST // 100 + 1, 2**64, 10**400, 1e18, math.inf, -math.inf)]
+NO_DECIMALS += [(decimal.Decimal(it), OverflowError) for it in ("92233720368547758.08", "-1E999999", "Infinity")]
+DECIMAL_ENDS = ["0.285", "0.2900000000000000000000000000001", "0.29", "-1.1", "-1.105", "10.1", "92233720368547758.075"]
+DECIMAL_ENDS += ["-92233720368547758.085", "1E+400", "-1E+400", "1E-400", "-1E-400", "-0.01"]
+NO_ENDS_OF_DECIMALS = [(it, error) for it, error in NO_ENDS if not isinstance(it, decimal.Decimal)]
+NO_ENDS_OF_DECIMALS += [(decimal.Decimal(it), ValueError) for it in ("NaN", "sNaN")]
+
+
+def of_decimals():
+    """The kinds of decimals. Ends that are floats here are exactly decimals, or far from all of them."""
+    keys = [decimal.Decimal(it).scaleb(-2) for it in DECIMALS]
+    arrays = [] if np is None else [limits(it) for it in (*WHOLE_TYPES, "float16")]
+    ends = [*ALL_ENDS, *map(decimal.Decimal, DECIMAL_ENDS)]
+    return [
+        Kind("decimals", "int64", keys, ends, NO_DECIMALS, NO_ENDS_OF_DECIMALS, arrays=arrays, decimals=2),
+        Kind(
+            "floats as decimals",
+            "int64",
+            [-1.25, -0.5, 0.0, 0.25, 2.0**40 + 0.75],
+            ALL_ENDS,
+            NO_DECIMALS,
+            NO_ENDS_OF_DECIMALS,
+            decimals=2,
+        ),
+    ]
+
+
 # Dates
 
 # ends as text, with their seconds since 1970
 TEXTS = {"1969-12-31": -86_400, "1970-01-01T00:00:00.25": fractions.Fraction(1, 4), "1970-01-01T00:00": 0}
 TEXTS |= {"1970-02": 31 * 86_400, "1972-03-01 00:00:01": (2 * 365 + 31 + 29) * 86_400 + 1, "1969": -365 * 86_400}
 TEXTS |= {"1969-12-31T23:59:59.999999999999999999": fractions.Fraction(-1, 10**18)}
+UTC_TEXTS = list(TEXTS)
 ZONES = [datetime.timezone(datetime.timedelta(hours=it)) for it in (-5, 0, 5.5)]
 
 
@@ -218,7 +266,7 @@ def of_dates():
         ends = list({(str(it.dtype), int(it.view(np.int64))): it for it in found}.values())
         ends += [datetime.date(1, 1, 1), datetime.date(1969, 12, 31), datetime.date(9999, 12, 31)]
         ends += [datetime.datetime(1969, 12, 31, 23, 59, 59, 999_999), datetime.datetime(1970, 1, 1, 0, 0, 0, 1)]
-        ends += [*TEXTS, *(datetime.datetime(1970, 1, 1, 0, 0, 0, 1, it) for it in ZONES)]
+        ends += [*UTC_TEXTS, *(datetime.datetime(1970, 1, 1, 0, 0, 0, 1, it) for it in ZONES)]
         no_dates = [(it, TypeError) for it in (5, 1.5, True, b"12345678", np.int64(5), np.timedelta64(1, "s"))]
         no_dates += [(np.datetime64("NaT"), ValueError), (np.datetime64("NaT", "s"), ValueError)]
         wrong = no_dates + [(None, TypeError)] + wrong_dates(dtype)
@@ -240,5 +288,38 @@ def wrong_dates(dtype):
     return wrong
 
 
-LISTS = of_lists()
-KINDS = LISTS + (of_numbers() + of_dates() if np is not None else [])
+# Times with a zone
+
+# ends as text, which are times in Berlin unless they have an offset, with their seconds since 1970: the clocks were put
+# forward from 2 to 3 on 29 March 2020, and back from 3 to 2 on 25 October
+DAY_OF_MARCH, DAY_OF_OCTOBER = (days_before(2020, 3) + 28) * 86_400, (days_before(2020, 10) + 24) * 86_400
+LOCAL_TEXTS = {"2020-03-29": DAY_OF_MARCH - 3600, "2020-03-30": DAY_OF_MARCH + 22 * 3600}
+LOCAL_TEXTS |= {"2020-03-29T01:59:59.5": DAY_OF_MARCH + 3599 + fractions.Fraction(1, 2)}
+LOCAL_TEXTS |= {"2020-03-29T03": DAY_OF_MARCH + 3600, "2020-03-29T02:30+01:00": DAY_OF_MARCH + 5400}
+LOCAL_TEXTS |= {"2020-10-25": DAY_OF_OCTOBER - 7200, "2020-10-26": DAY_OF_OCTOBER + 23 * 3600}
+LOCAL_TEXTS |= {"2020-10-25T02:30+02:00": DAY_OF_OCTOBER + 1800, "2020-10-25T02:30+01": DAY_OF_OCTOBER + 5400}
+LOCAL_TEXTS |= {"2020-10-25T00:30Z": DAY_OF_OCTOBER + 1800, "2020-10-25T01:59:59": DAY_OF_OCTOBER - 1}
+LOCAL_TEXTS |= {"2020-10-25 03:00:00": DAY_OF_OCTOBER + 7200, "2020-07": days_before(2020, 7) * 86_400 - 7200}
+TEXTS |= LOCAL_TEXTS
+NEVER_OR_TWICE = ["2020-03-29T02", "2020-03-29T02:59:59.9", "2020-10-25T02:00", "2020-10-25T02:59:59.999999999"]
+NEVER_OR_TWICE += [datetime.datetime(2020, 3, 29, 2, 30), datetime.datetime(2020, 10, 25, 2, 30)]
+
+
+def of_zones():
+    """The kinds of times with a zone. Ends that are no text have a zone."""
+    utc = datetime.timezone.utc
+    epoch, micro = datetime.datetime(1970, 1, 1, tzinfo=utc), datetime.timedelta(microseconds=1)
+    berlin = zoneinfo.ZoneInfo("Europe/Berlin")
+    seconds = [-(10**9), 0, *(LOCAL_TEXTS[it] for it in ("2020-03-29", "2020-03-29T03", "2020-10-25T02:30+02:00"))]
+    seconds += [DAY_OF_OCTOBER + 5400, LOCAL_TEXTS["2020-10-26"], 10**10]
+    keys = [(epoch + datetime.timedelta(seconds=it)).astimezone(berlin) for it in seconds]
+    ends = [(it + more).astimezone(zone) for it in keys for more in (-micro, 0 * micro, micro) for zone in ZONES]
+    no_dates = [(it, TypeError) for it in (5, 1.5, True, b"12345678", [epoch])]
+    wrong = [*no_dates, (None, TypeError), *((it, ValueError) for it in (*NEVER_OR_TWICE, "2020-1-1", "202001", "now"))]
+    wrong_ends = [*no_dates, *((it, ValueError) for it in (*NEVER_OR_TWICE, "2020-1-1", "202001", ""))]
+    ends += [*keys, *LOCAL_TEXTS]
+    return [Kind("times in Berlin", "datetime64[us]", keys, ends, wrong, wrong_ends, zone="Europe/Berlin")]
+
+
+LISTS = of_lists() + of_decimals()
+KINDS = LISTS + (of_numbers() + of_dates() + of_zones() if np is not None else [])

@@ -16,6 +16,7 @@ from ways import InProcess, InShards, OverTcp, crackd, np, wants_library, wants_
 
 WORKERS = 2
 ON_CLUSTERS = ("list of int", "int8", "uint64", "float64", "datetime64[M]", "datetime64[s]", "datetime64[ns]")
+ON_CLUSTERS += ("decimals", "times in Berlin")
 
 
 def numbers(it):
@@ -46,9 +47,10 @@ class Model:
         return sum(it[1] for it in self.inside(low, high).values())
 
 
-def selected(got):
+def selected(kind, table, *ends):
     """The rows of a select, as a model has them."""
-    return dict(zip(numbers(got.rows), zip(map(value, got.keys), numbers(got.payloads))))
+    got = table.select(*ends, raw=True)
+    return dict(zip(numbers(got.rows), zip(map(kind.exact, got.keys), numbers(got.payloads))))
 
 
 class OfKinds:
@@ -59,7 +61,7 @@ class OfKinds:
     @contextlib.contextmanager
     def filled(self, kind, **options):
         """A table with a row for each key, and its model."""
-        with self.subTest(kind.name), self.table(key_type=kind.key_type, **options) as table:
+        with self.subTest(kind.name), self.table(key_type=kind.key_type, **kind.options, **options) as table:
             model = Model()
             model.put(table.insert_many(kind.given(kind.keys), kind.payloads), kind.keys, kind.payloads)
             yield table, model
@@ -108,15 +110,16 @@ class OfKinds:
             with self.filled(kind) as (table, model):
                 least = kind.keys[0]
                 for found in (table.select(), table.select(least, least), table.select(None, least)):
-                    self.assertEqual(str(getattr(found.keys, "dtype", kind.key_type)), kind.key_type)
+                    wanted = "float64" if kind.decimals else kind.key_type
+                    self.assertEqual(str(getattr(found.keys, "dtype", wanted)), wanted)
                 ends = [*kind.keys, *kind.ends[:: max(1, len(kind.ends) // 20)], None]
                 for low, high in [*((it, None) for it in ends), *((None, it) for it in ends)]:
-                    self.assertEqual(selected(table.select(low, high)), model.inside(low, high), (low, high))
+                    self.assertEqual(selected(kind, table, low, high), model.inside(low, high), (low, high))
 
     def expect(self, table, model, kind):
         """The table has the rows of the model."""
         self.assertEqual((len(table), table.sum()), (len(model.rows), model.sum(None, None)))
-        self.assertEqual(selected(table.select()), model.rows)
+        self.assertEqual(selected(kind, table), model.rows)
         lows, highs = [None, *kind.keys], [*kind.keys, None]
         wanted = [[call(*it) for it in zip(lows, highs)] for call in (model.count, model.sum)]
         self.assertEqual([numbers(table.count_many(lows, highs)), table.sum_many(lows, highs)], wanted)
@@ -202,7 +205,7 @@ class OfKinds:
         for kind in self.kinds:
             at = len(kind.keys) // 2
             splits, sizes = kind.given(kind.keys[at : at + 2]), [at, 1, len(kind.keys) - at - 1]
-            with self.subTest(kind.name), self.table(splits=splits, key_type=kind.key_type) as table:
+            with self.subTest(kind.name), self.table(splits=splits, key_type=kind.key_type, **kind.options) as table:
                 model = Model()
                 rows = table.insert_many(kind.given(kind.keys), kind.payloads)
                 model.put(rows, kind.keys, kind.payloads)
@@ -366,7 +369,9 @@ class InProcessKinds(OfKinds, InProcess, unittest.TestCase):
         for kind in self.kinds:
             for options in ({}, {"partitions": 3}, {"splits": kind.given(kind.keys[2:3])}):
                 keys = kind.given(kind.keys)
-                with self.subTest(kind.name), crackd.Table.from_arrays(keys, kind.payloads, **options) as table:
+                with self.subTest(kind.name), crackd.Table.from_arrays(
+                    keys, kind.payloads, **kind.options, **options
+                ) as table:
                     model = Model()
                     model.put(table.row_numbers, kind.keys, kind.payloads)
                     self.expect(table, model, kind)
@@ -406,7 +411,7 @@ class ClusterKinds(OfKinds, unittest.TestCase):
             with tempfile.TemporaryDirectory() as room, self.subTest(kind.name):
                 folder, steps = pathlib.Path(room) / "saved", Steps()
                 splits, wanted = kind.given(kind.keys[1:4:2]), sorted(zip(map(value, kind.keys), kind.payloads))
-                with self.table(splits=splits, key_type=kind.key_type) as table:
+                with self.table(splits=splits, key_type=kind.key_type, **kind.options) as table:
                     table.insert_many(kind.given(kind.keys), kind.payloads)
                     with steps.written():
                         manifest = table.save(folder)
@@ -418,9 +423,11 @@ class ClusterKinds(OfKinds, unittest.TestCase):
                 with mock.patch.object(cluster, "ROWS_A_TASK", 2):
                     for shards in (1, 2):
                         with cluster.Table.restore(self.client, folder, shards=shards) as table:
-                            found = selected(table.select())
+                            found = selected(kind, table)
                             self.assertEqual((table.shards, sorted(found.values())), (shards, wanted))
-                            self.assertEqual(str(table.select().keys.dtype), kind.key_type)
+                            found = table.key_type, table.key_decimals, table.zone
+                            self.assertEqual(found, (kind.key_type, kind.decimals, kind.zone))
+                            self.assertEqual(str(table.select(raw=True).keys.dtype), kind.key_type)
 
     def test_partitions_that_a_shard_does_not_have(self):
         with self.table(splits=[100], key_type="int64") as table:
