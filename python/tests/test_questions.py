@@ -28,7 +28,7 @@ from ways import (
 
 from crackd import library, questions
 
-FEW = ("list of int", "int8", "uint64", "float64", "datetime64[M]", "datetime64[s]", "datetime64[ns]")
+FEW = ("list of int", "decimals", "times in Berlin", "int8", "uint64", "float64", "datetime64[M]", "datetime64[s]", "datetime64[ns]")
 WORKERS = 2
 
 
@@ -40,7 +40,7 @@ class Questions:
     @contextlib.contextmanager
     def filled(self, kind, **options):
         """A table with a row for each key, and its model."""
-        with self.subTest(kind.name), self.table(key_type=kind.key_type, **options) as table:
+        with self.subTest(kind.name), self.table(key_type=kind.key_type, **kind.options, **options) as table:
             model = Model()
             model.put(table.insert_many(kind.given(kind.keys), kind.payloads), kind.keys, kind.payloads)
             yield table, model
@@ -104,7 +104,7 @@ class Questions:
                     self.assertEqual(table.delete_range(low, high), len(gone))
                     self.assertEqual(table.delete_range(low, high), 0)
                     left = {row: it for row, it in model.rows.items() if row not in gone}
-                    self.assertEqual(selected(table.select()), left)
+                    self.assertEqual(selected(kind, table), left)
                     self.assertEqual(table.delete_range(), len(left))
                     self.assertEqual(len(table), 0)
 
@@ -150,10 +150,10 @@ class Questions:
                     del model.rows[row]
                     model.rows[new] = (value(key), payload)
                     row = new
-                self.assertEqual(selected(table.select()), model.rows)
+                self.assertEqual(selected(kind, table), model.rows)
                 for key, error in kind.wrong[:: max(1, len(kind.wrong) // 5)]:
                     self.assertRaises(error, table.move, row, key)
-                self.assertEqual(selected(table.select()), model.rows)
+                self.assertEqual(selected(kind, table), model.rows)
 
     def test_a_row_whose_move_is_refused_is_put_back(self):
         with self.table(splits=[100], cells=2) as table:
@@ -205,9 +205,10 @@ class Questions:
             with self.filled(kind) as (table, model):
                 found = table.rebalanced(splits=kind.given(kind.keys[2:3]))
                 with found.table as other:
-                    self.assertEqual(other.key_type, kind.key_type)
+                    found_type = other.key_type, other.key_decimals, other.zone
+                    self.assertEqual(found_type, (kind.key_type, kind.decimals, kind.zone))
                     self.assertEqual(sum(it.pending_in for it in other.layout().parts), 0)
-                    after = selected(other.select())
+                    after = selected(kind, other)
                     self.assertEqual(numbers(found.old), sorted(model.rows))
                     pairs = zip(numbers(found.old), numbers(found.new))
                     self.assertEqual({old: after[new] for old, new in pairs}, model.rows)
@@ -215,7 +216,7 @@ class Questions:
                     self.assertEqual([after[it] for it in numbers(found.new_of(some))], [model.rows[it] for it in some])
                     self.assertRaises(KeyError, found.new_of, [max(model.rows) + 1])
                     self.assertRaises(KeyError, found.new_of, [*some, 2**64 - 1])
-                self.assertEqual(selected(table.select()), model.rows)
+                self.assertEqual(selected(kind, table), model.rows)
 
     def test_rebalanced_into_another_table(self):
         with self.table(splits=[100]) as table, crackd.Table(splits=[2], policy="complete") as other:
@@ -271,17 +272,18 @@ class Files:
 
     def test_saves(self):
         for kind in self.kinds:
-            options = {"key_type": kind.key_type, "splits": kind.given(kind.keys[1:4:2])}
+            options = {"key_type": kind.key_type, "splits": kind.given(kind.keys[1:4:2]), **kind.options}
             with self.subTest(kind.name), self.table(**options) as table:
                 table.insert_many(kind.given(kind.keys), kind.payloads)
                 self.assertEqual(table.save(self.path), len(kind.keys))
                 saved = np.load(self.path)
                 self.assertEqual((saved.dtype.names, str(saved.dtype["key"])), (("key", "payload"), kind.key_type))
                 wanted = sorted(zip(map(value, kind.keys), kind.payloads))
-                self.assertEqual(sorted(zip(map(value, saved["key"]), saved["payload"].tolist())), wanted)
+                self.assertEqual(sorted(zip(map(kind.exact, saved["key"]), saved["payload"].tolist())), wanted)
                 with crackd.Table.load(self.path) as loaded:
-                    found = sorted(selected(loaded.select()).values())
+                    found = sorted(selected(kind, loaded).values())
                     self.assertEqual((found, loaded.key_type), (wanted, kind.key_type))
+                    self.assertEqual((loaded.key_decimals, loaded.zone), (kind.decimals, kind.zone))
                     self.assertEqual(len(loaded.row_numbers), len(wanted))
                     self.assertEqual(sum(it.pending_in for it in loaded.layout().parts), 0)
 

@@ -77,7 +77,7 @@ class Saves(unittest.TestCase):
 
     def test_rows_of_each_kind(self):
         for kind in KINDS:
-            keys = crackd.keys.Keys.named(kind.key_type)
+            keys = crackd.keys.Keys.named(kind.key_type).with_decimals(kind.decimals).with_zone(kind.zone)
             cuts = numbers(keys.many(kind.given(kind.keys[1:3])))
             shard = self.shard(keys, kind.given(kind.keys), kind.payloads, cuts)
             with self.subTest(kind.name):
@@ -85,7 +85,7 @@ class Saves(unittest.TestCase):
                 self.assertEqual(shard.save(path), (len(kind.keys), sum(kind.payloads)))
                 rows = np.load(path)
                 self.assertEqual((rows.dtype["key"], rows.dtype["payload"]), (np.dtype(kind.key_type), np.int64))
-                found = list(zip(map(value, rows["key"]), rows["payload"].tolist()))
+                found = list(zip(map(kind.exact, rows["key"]), rows["payload"].tolist()))
                 self.assertEqual(sorted(found), sorted(zip(map(value, kind.keys), kind.payloads)))
 
     def test_a_manifest_is_on_the_disk_before_it_has_its_name(self):
