@@ -113,7 +113,7 @@ def max_of(given: Any) -> Any:
 
 def too_large(code: str, number: Any, what: str, place: Optional[int] = None) -> OverflowError:
     """The error for a number that doesn't fit into 64 bits."""
-    which = f"{what} {shown(number)}" if place is None else f"item {place} of the {what}, {shown(number)},"
+    which = named(what if place is None else f"item {place} of the {what},", number)
     return OverflowError(f"{which} doesn't fit into {LIMITS[code][2]} integer of 64 bits")
 
 
@@ -155,7 +155,12 @@ def scaled(number: Any, decimals: int, what: str) -> Optional[int]:
 
 def no_decimal(number: Any, decimals: int, what: str) -> ValueError:
     """The error for a number that has more decimal places."""
-    return ValueError(f"{what} {shown(number)} isn't a decimal with {places_text(decimals)}")
+    return ValueError(f"{named(what, number)} isn't a decimal with {places_text(decimals)}")
+
+
+def named(what: str, number: Any) -> str:
+    """A number with the words before it: "the key 0.125", or "item 3 of the keys, 0.125,"."""
+    return f"{what} {shown(number)}{',' if what.endswith(',') else ''}"
 
 
 def scaled_decimal(number: decimal.Decimal, decimals: int, what: str) -> Optional[int]:

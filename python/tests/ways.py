@@ -150,6 +150,7 @@ class OverAsyncio:
             sample, rows, workers=1, **options
         ) as served:
             words = {"key_type": served._keys, "policy": served._policy}
+            words["payload_decimals"] = served._payloads.decimals
             table = Awaited(loop, loop.run_until_complete(crackd.connect_async(port=served.port, **words)))
             try:
                 yield table
