@@ -1,3 +1,5 @@
+mod BlockLemmas
+mod ClosingLemmas
 mod NextLemmas
 mod EdgeLemmas
 mod InsertLemmas

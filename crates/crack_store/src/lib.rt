@@ -7,7 +7,9 @@
 
 pub mod appending;
 mod ascent;
+mod blocks;
 pub mod carrying;
+mod closing;
 pub mod coarsening;
 mod cracking;
 pub mod draining;
