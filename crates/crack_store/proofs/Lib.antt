@@ -1,5 +1,7 @@
 mod BlockLemmas
 mod ClosingLemmas
+mod SplitLaws
+mod ClosedLaws
 mod NextLemmas
 mod EdgeLemmas
 mod InsertLemmas

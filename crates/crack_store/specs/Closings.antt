@@ -1,13 +1,18 @@
 -- What private clauses alone cite.
 -- The pass that closes a column's pieces over their doomed rows, from the lowest up. Its visitor is `v` before a bound
 -- and `w` after it.
-use Rattle.std.specs.Prelude.{◌≡◌, ℕ, ◌≤◌, Bool, List, length}
+use Rattle.std.specs.Prelude.{◌≡◌, ℕ, ◌+◌, ◌-◌, ◌*◌, ◌≤◌, Bool, true, false, List, length, map, take, drop}
+use Rattle.std.specs.List.{All}
+use Rattle.std.specs.List.Sorted.{IsPermutation}
 use Rattle.crack_arena.specs.Arena.{Handle}
+use Rattle.crack_arena.specs.Rows.{key_at}
 use Rattle.crack_index.specs.declared.mark.Mark.{Mark}
-use Rattle.crack_state.specs.State.{greatest}
+use Rattle.crack_index.specs.Marks.{Rising, bounds_of}
+use Rattle.crack_state.specs.State.{IsObeyed, greatest}
 use Rattle.crack_store.specs.Blocks.{KeepsRows, is_among}
 use Rattle.crack_store.specs.Passes.{ClosesPiece}
 use Rattle.crack_store.specs.declared.closing.Closing.{Closing}
+use Rattle.crack_store.specs.declared.inside.Inside.{Inside}
 
 -- the hole is before the next piece, which begins in the column or at its end, and the count of pulled rows is one of a
 -- counter
@@ -50,3 +55,20 @@ Closes = ClosesPiece closing_rows closing_from closing_gap closing_moved closing
 -- place is before that piece or past the column's end
 abbrev pub ClosesAt : Closing → Mark → ℕ → Closing → Type 0
 ClosesAt v m place w = v.from ≤ m.position → m.position ≤ length v.column.handles → Closes v m.position place w
+
+-- from `p` to `q` all pieces were closed over the doomed rows: the rows before the place `live` aren't doomed, the
+-- others are, and the marks divide the rows before it. The bounds are the same; only column, index and the count of
+-- pulled rows change. That count grows by at most the number of doomed rows for each piece
+pub record ClosesPieces (p q : Inside) (live : ℕ) : Type 0 where
+  pub same : q ≡ record p { column = q.column; index = q.index; tally = record p.tally { pulled = q.tally.pulled } }
+  pub within : live ≤ length q.column.handles
+  pub stay : All (λ h. is_among p.pending_out.handles h ≡ false) (take live q.column.handles)
+  pub leave : All (λ h. is_among p.pending_out.handles h ≡ true) (drop live q.column.handles)
+  pub permuted : IsPermutation p.column.handles q.column.handles
+  pub obeyed : IsObeyed q.index.marks (map (key_at p.arena.cells) (take live q.column.handles))
+  pub rising : Rising q.index.marks
+  pub bounds : bounds_of q.index.marks ≡ bounds_of p.index.marks
+  pub keeps : KeepsRows p.column q.column
+  pub rises : p.tally.pulled ≤ q.tally.pulled
+  pub few : q.tally.pulled ≤ p.tally.pulled + (length p.index.marks + 1) * (length q.column.handles - live)
+  pub small : q.tally.pulled ≤ greatest

@@ -5,8 +5,8 @@ ghost use Rattle.crack_store.specs.Blocks.{ChangesSides, KeepsRows, Parts};
 use crack_column::CrackerColumn;
 use crack_pending::PendingOut;
 
-/// Brings the rows at the indices `middle..to` before those at `from..middle`; both groups may get another order. Returns
-/// how many pairs of rows were exchanged: as many as the smaller group has rows. Reads no row.
+/// Brings the rows at the indices `middle..to` before those at `from..middle`; both groups may get another order.
+/// Returns how many pairs of rows were exchanged: as many as the smaller group has rows. Reads no row.
 pub(crate) fn exchange_sides(
     column: &mut CrackerColumn,
     from: usize,
@@ -27,8 +27,8 @@ pub(crate) fn exchange_sides(
     count
 }
 
-/// Divides the rows at the indices `from..to`: those that aren't doomed come first. Returns the index of the first doomed
-/// one, or `to` if there is none. O(to - from); one exchange at most for each doomed row.
+/// Divides the rows at the indices `from..to`: those that aren't doomed come first. Returns the index of the first
+/// doomed one, or `to` if there is none. O(to - from); one exchange at most for each doomed row.
 pub(crate) fn part_doomed(
     column: &mut CrackerColumn,
     from: usize,

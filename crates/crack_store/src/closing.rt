@@ -6,10 +6,12 @@
 //! in between  5 3 | 12 17 (× ×)  |  21 25 28        the hole is before the last piece
 //! after       5 3 | 12 17 | 28 21 25 (× ×)
 //! ```
-ghost use Rattle.std.specs.Prelude.{◌≡◌, ◌+◌, ◌≤◌, length};
-ghost use Rattle.crack_store.specs.Closings.{Closes, ClosesAt, IsClosingReady};
+ghost use Rattle.std.specs.Prelude.{◌≤◌, [], length};
+ghost use Rattle.crack_store.specs.Closings.{Closes, ClosesPieces, IsClosingReady};
+ghost use Rattle.crack_store.specs.Keeps.{KeepsIntact};
 
 use crate::blocks::{exchange_sides, part_doomed};
+use crate::inside::Inside;
 use crack_column::CrackerColumn;
 use crack_index::{Mark, Placer};
 use crack_pending::PendingOut;
@@ -26,9 +28,9 @@ pub(crate) struct Closing<'a> {
     pub(crate) pulled: u64,
 }
 
-/// Closes the next piece, which ends at the index `to`: its rows that aren't doomed come before the hole, and the others
-/// join the hole. Returns the index where the piece then ends. Moves as many rows as the hole before had, or as many
-/// as stay if they are fewer, and exchanges at most one for each doomed row. O(to - from).
+/// Closes the next piece, which ends at the index `to`: its rows that aren't doomed come before the hole, and the
+/// others join the hole. Returns the index where the piece then ends. Moves as many rows as the hole before had, or as
+/// many as stay if they are fewer, and exchanges at most one for each doomed row. O(to - from).
 pub(crate) fn close_piece(closing: &mut Closing, to: usize) -> usize
     requires ready { IsClosingReady closing.old }
     requires order { closing.old.from ≤ to }
@@ -63,4 +65,27 @@ impl<'a> Placer for Closing<'a> {
         }
         close_piece(self, to)
     }
+}
+
+/// Closes all pieces of the column over the doomed rows, which come last. Each bound moves down to the end of its
+/// piece. Returns the index where the doomed rows begin. O(rows + bounds); in each piece as many rows move as the lower
+/// pieces have doomed ones, or as stay in it if they are fewer.
+pub(crate) fn close_pieces(inside: &mut Inside) -> usize
+    requires { KeepsIntact inside.old [] }
+    ensures closes { ClosesPieces inside.old inside.new result }
+{
+    let mut closing = Closing {
+        column: inside.column.take(),
+        pending_out: &inside.pending_out,
+        from: 0,
+        gap: 0,
+        pulled: inside.tally.pulled,
+    };
+    inside.index.place_each(&mut closing);
+    let to = closing.column.len();
+    let live = close_piece(&mut closing, to);
+    let Closing { column, pulled, .. } = closing;
+    inside.column = column;
+    inside.tally.pulled = pulled;
+    live
 }
