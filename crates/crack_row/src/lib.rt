@@ -34,6 +34,9 @@ pub const GREATEST_PAYLOAD: PayloadNumber = 9223372036854775807;
 /// The greatest limit on the number of entries in a partition's history.
 pub const GREATEST_LIMIT: u64 = 1000000;
 
+/// Stands in place of a limit on the number of entries in a partition's history that has none.
+pub const NO_LIMIT: u64 = 18446744073709551615;
+
 /// The greatest limit on the number of cells for a partition's rows.
 pub const GREATEST_CELLS: u64 = 16777215;
 

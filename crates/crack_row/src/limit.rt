@@ -1,8 +1,12 @@
 //! The limits of a partition.
 ghost use Rattle.std.specs.Prelude.{◌≡◌, ◌↔◌, IsTrue};
-ghost use Rattle.crack_row.specs.Limits.{AreLimits, are_limits, is_limit, of_history};
+ghost use Rattle.crack_row.specs.Limits.{AreLimits, are_limits, is_history_limit, is_limit, history_limit};
+ghost use Rattle.crack_row.specs.Limits.{of_history};
 
-use crate::{GREATEST_CELLS, GREATEST_LIFE, GREATEST_LIMIT};
+use crate::{GREATEST_CELLS, GREATEST_LIFE, GREATEST_LIMIT, NO_LIMIT};
+
+/// No history gets as long as `NO_LIMIT`: it has at most as many entries as the greatest life allows commands.
+const _: () = prove!(GREATEST_LIFE < NO_LIMIT);
 
 /// What a partition does once it reaches a limit.
 #[derive(Clone, Copy, PartialEq, Eq, Debug)]
@@ -14,9 +18,9 @@ pub enum Upkeep {
     Automatic,
 }
 
-/// The limits of a partition: how many entries its history may have (1 to `GREATEST_LIMIT`), how many cells its
-/// rows may take (1 to `GREATEST_CELLS`), and how many commands it may accept in total (1 to `GREATEST_LIFE`); and
-/// what it does once it reaches them.
+/// The limits of a partition: how many entries its history may have (1 to `GREATEST_LIMIT`, or `NO_LIMIT`), how many
+/// cells its rows may take (1 to `GREATEST_CELLS`), and how many commands it may accept in total (1 to
+/// `GREATEST_LIFE`); and what it does once it reaches them.
 #[derive(Clone, Copy, PartialEq, Eq, Debug)]
 pub struct Limits {
     pub history: u64,
@@ -39,15 +43,35 @@ impl Limits {
         }
     }
 
-    /// Whether each limit is at least 1 and at most the greatest of its kind. O(1).
+    /// The limit of a history for the number that a user gave: `NO_LIMIT` if none was given. A number that is out of
+    /// range becomes 0, which no opening accepts; so `NO_LIMIT` can't be given. O(1).
+    pub fn history_limit(given: Option<u64>) -> u64
+        ensures { result ≡ history_limit given }
+    {
+        match given {
+            None => NO_LIMIT,
+            Some(limit) if limit <= GREATEST_LIMIT => limit,
+            Some(_) => 0,
+        }
+    }
+
+    /// Whether each limit is at least 1 and at most the greatest of its kind, where the history may also have no
+    /// limit. O(1).
     pub fn are_valid(self) -> bool
         ensures value { result ≡ are_limits self }
         ensures valid { IsTrue result ↔ AreLimits self }
     {
-        is_limit(GREATEST_LIMIT, self.history)
+        is_history_limit(self.history)
             && is_limit(GREATEST_CELLS, self.cells)
             && is_limit(GREATEST_LIFE, self.life)
     }
+}
+
+/// Whether a history may have this limit, or has none.
+fn is_history_limit(limit: u64) -> bool
+    ensures { result ≡ is_history_limit limit }
+{
+    limit == NO_LIMIT || is_limit(GREATEST_LIMIT, limit)
 }
 
 /// Whether a limit is at least 1 and at most `greatest`.
