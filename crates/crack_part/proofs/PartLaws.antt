@@ -15,7 +15,7 @@ use Rattle.crack_part.specs.Upkeep.{is_due, is_full}
 use Rattle.crack_part.proofs.ClearLaws.{IsSound-cleared}
 use Rattle.crack_part.proofs.KeepLemmas.{Keeps, Keeps-merged, Keeps-stopped}
 use Rattle.crack_part.proofs.OrderLemmas.{state-faithful}
-use Rattle.crack_part.proofs.SoundLemmas.{SpendsNone, IsSound-kept, IsSound-served}
+use Rattle.crack_part.proofs.SoundLemmas.{SpendsNone, IsSound-kept, IsSound-served, some-history}
 use Rattle.crack_part.proofs.UpkeepLaws.{counts-one, since-le-history}
 
 -- the known sums are still those of the live rows, if these are as they were
@@ -37,6 +37,6 @@ state-served p command next t sound faithful = state-faithful t next (after (sta
 
 pub KnowsPart-served : (known : Known) (p : Part) (command : Command) (next checkpointed since : ℕ) (t : State) → IsSound p → checkpointed ≡ (if is_due p.limits p.since then p.checkpointed + p.since else p.checkpointed) → since ≡ (if is_due p.limits p.since then 0 else p.since) + 1 → is_full p.limits p.since ≡ false → p.checkpointed + p.since < p.limits.life → length t.cells ≤ p.limits.cells → IsIntact t [] → IsFaithful t next (after (state_of p) command) → Spends 1 1 p.store t × SpendsNone p.store t → KnowsSums known (after (state_of p) command) → KnowsPart known (record p { next = next; checkpointed = checkpointed; since = since; store = t })
 KnowsPart-served known p command next checkpointed since t sound counted more unshut life fits intact faithful spends knows = record {
-  sound = IsSound-served p command next checkpointed since t sound (counts-one p.limits (table_of p) checkpointed since counted more) (since-le-history p.limits p.since since sound.limited.history.0 unshut more) life fits intact faithful spends;
+  sound = IsSound-served p command next checkpointed since t sound (counts-one p.limits (table_of p) checkpointed since counted more) (since-le-history p.limits p.since since (some-history p.limits sound.limited) unshut more) life fits intact faithful spends;
   knows = subst (KnowsSums known) (sym (state-served p command next t sound faithful)) knows;
 }

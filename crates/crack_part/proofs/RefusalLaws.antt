@@ -1,20 +1,22 @@
 -- What follows if a partition refuses no command, or one for a cause.
-use Rattle.std.specs.Prelude.{◌≡◌, ◌+◌, ◌<◌, Bool, true, false, Option, None, Some, IfSome, ◌&&◌, not, nat_le, nat_lt, if◌then◌else◌}
+use Rattle.std.specs.Prelude.{◌≡◌, ℕ, ◌+◌, ◌<◌, Bool, true, false, Option, None, Some, IfSome, ◌&&◌, not, nat_le, nat_lt, if◌then◌else◌}
 use Rattle.std.specs.Option.{option_or}
 use Rattle.std.proofs.Common.{refl, ap, ◌∙◌}
 use Rattle.std.proofs.lemmas.Bool.{and_parts, leb-true, leb-false, ltb-true}
 use Rattle.crack_row.specs.Commands.{change_of, key_of}
 use Rattle.crack_row.specs.Ranges.{Range, IsIn}
+use Rattle.crack_row.specs.declared.TheConstants.{NO_LIMIT}
 use Rattle.crack_row.specs.declared.Key.{Key}
 use Rattle.crack_row.specs.declared.command.Command.{Command}
 use Rattle.crack_row.specs.declared.refusal.Refusal.{Refusal}
 use Rattle.crack_row.specs.declared.refusal.Refusal.TheVariants.{KeyOutside, HistoryFull, NoCell, LifeOver}
 use Rattle.crack_plain.proofs.Words.{IsWithin}
-use Rattle.crack_part.specs.Parts.{Part, table_of}
+use Rattle.crack_part.specs.Parts.{Part, IsSound, table_of}
 use Rattle.crack_part.specs.Refusals.{is_key_in, stopped_by, refusal_of}
 use Rattle.crack_part.specs.Inside.{early_refusal_of}
 use Rattle.crack_part.specs.Cells.{lacks_cell, may_clear, is_without_cell}
-use Rattle.crack_part.specs.Upkeep.{is_full}
+use Rattle.crack_part.specs.Upkeep.{is_automatic, is_full, is_due}
+use Rattle.crack_part.proofs.SoundLemmas.{never-reached}
 
 -- whether a command has a key of others, by the test
 pub within-true : (keys : Range) (key : Option Key) → is_key_in keys key ≡ true → IfSome key (λ (k : Key). IsIn keys k.0)
@@ -80,3 +82,21 @@ refused-with_cell p command has = ap (λ (b : Bool). cause (is_key_in p.keys (ke
 pub if_refused : (o : Option Refusal) (P Q : Refusal → Type 0) → ((e : Refusal) → P e → Q e) → IfSome o P → IfSome o Q
 if_refused None P Q f is = tt
 if_refused (Some e) P Q f is = f e is
+
+-- a partition whose history isn't full, whatever its limits, refuses no command as full
+not-by-full : (own full over lacks : Bool) (limit length : ℕ) → full ≡ false → cause own (if full then Some (HistoryFull limit) else (if over then Some LifeOver else None)) lacks ≡ Some (HistoryFull length) → ⊥
+not-by-full true true over lacks limit length unshut is = cc unshut
+not-by-full true false true lacks limit length unshut is = cc is
+not-by-full true false false true limit length unshut is = cc is
+not-by-full true false false false limit length unshut is = cc is
+not-by-full false full over lacks limit length unshut is = cc is
+
+-- if the history has no limit, no command is refused because it is full
+pub never-full : (p : Part) (command : Command) (length : ℕ) → IsSound p → p.limits.history ≡ NO_LIMIT → refusal_of p command ≡ Some (HistoryFull length) → ⊥
+never-full p command length sound none =
+    let unshut : is_full p.limits p.since ≡ false = ap (λ (b : Bool). b && not (is_automatic p.limits.upkeep)) (never-reached p sound none) in
+    not-by-full (is_key_in p.keys (key_of command)) (is_full p.limits p.since) (nat_le p.limits.life (p.checkpointed + p.since)) (is_without_cell p.limits p.store (change_of command)) p.limits.history length unshut
+
+-- if the history has no limit, no checkpoint is due
+pub never-due : (p : Part) → IsSound p → p.limits.history ≡ NO_LIMIT → is_due p.limits p.since ≡ false
+never-due p sound none = ap (λ (b : Bool). b && is_automatic p.limits.upkeep) (never-reached p sound none)

@@ -1,14 +1,14 @@
 -- A partition's invariant, and what follows from it.
-use Rattle.std.proofs.Common.{◌≡◌, ℕ, ◌+◌, ◌^◌, ◌<◌, ◌≤◌, List, [], ◌∷◌, ◌++◌, length, Bool, true, false, Option, Some, None, IfSome, option_and_then, arith, inl, inr, refl, sym, ap, subst, ◌∙◌}
+use Rattle.std.proofs.Common.{◌≡◌, ℕ, ◌+◌, ◌^◌, ◌<◌, ◌≤◌, nat_le, List, [], ◌∷◌, ◌++◌, length, Bool, true, false, Option, Some, None, IfSome, option_and_then, arith, inl, inr, refl, sym, ap, subst, ◌∙◌}
 use Rattle.std.specs.List.{All}
 use Rattle.std.specs.List.Sorted.{IsPermutation}
-use Rattle.std.proofs.lemmas.Bool.{cases_eq}
+use Rattle.std.proofs.lemmas.Bool.{cases_eq, lt-leb}
 use Rattle.std.proofs.lemmas.List.Sorted.{IsPermutation-sym, IsPermutation-trans, IsPermutation-cons, IsPermutation-to_front, All-permutation}
 use Rattle.crack_row.specs.Commands.{change_of, range_of, brought_key}
 use Rattle.crack_row.specs.Ranges.{Range, IsIn}
-use Rattle.crack_row.specs.Limits.{AreLimits, of_history}
+use Rattle.crack_row.specs.Limits.{IsLimit, AreLimits, of_history}
 use Rattle.crack_row.specs.Rows.{row_with}
-use Rattle.crack_row.specs.declared.TheConstants.{GREATEST_LIFE}
+use Rattle.crack_row.specs.declared.TheConstants.{GREATEST_LIFE, NO_LIMIT}
 use Rattle.crack_row.specs.declared.Key.{Key}
 use Rattle.crack_row.specs.declared.limit.Limits.{Limits}
 use Rattle.crack_row.specs.declared.Payload.{Payload}
@@ -29,11 +29,18 @@ use Rattle.crack_state.proofs.KeyedLaws.{handle_of-fresh}
 use Rattle.crack_state.proofs.InsertLaws.{live_rows-row_inserted, freed-row_inserted, cells-row_inserted}
 use Rattle.crack_state.proofs.PointLaws.{Spends, Spends-cancels, Spends-dooms, Spends-rewrites, found_by, stands1}
 use Rattle.crack_store.specs.Inside.{no_cells}
-use Rattle.crack_part.specs.Parts.{Part, IsLimit, IsSound, checkpointed_part, IsFaithful, ServesCleared, Prepares, Performs, state_of}
+use Rattle.crack_part.specs.Parts.{Part, IsSound, checkpointed_part, IsFaithful, ServesCleared, Prepares, Performs, state_of}
 use Rattle.crack_part.specs.Inside.{inserted_row, MayPerform}
 use Rattle.crack_part.proofs.CellLemmas.{rows-le-cells}
 use Rattle.crack_part.proofs.KeepLemmas.{Keeps, Keeps-room, Keeps-prepared, IsIntact-prepared}
 use Rattle.crack_part.proofs.OrderLemmas.{state-faithful}
+
+-- a history that has a limit may have an entry; one that has none may, too
+pub some-history : (limits : Limits) → AreLimits limits → 1 ≤ limits.history
+some-history limits limited = elim limited.history [
+  | inl given ↦ given.0
+  | inr none ↦ omega (arith, none)
+]
 
 -- it has accepted no more commands than a life may have
 pub accepted-le-life : (p : Part) → IsSound p → p.checkpointed + p.since ≤ GREATEST_LIFE
@@ -200,7 +207,7 @@ Spends-served policy p command t sound lives within served =
 
 -- a limit of a history, and the greatest of the others
 pub AreLimits-of_history : (limit : ℕ) → IsLimit limit → AreLimits (of_history limit)
-AreLimits-of_history limit limited = record { history = limited; cells = (omega arith, omega arith); life = (omega arith, omega arith) }
+AreLimits-of_history limit limited = record { history = inl limited; cells = (omega arith, omega arith); life = (omega arith, omega arith) }
 
 -- the start
 pub IsSound-opened : (keys : Range) (limits : Limits) (store : State) → store ≡ no_cells keys store.column_room store.in_room → AreLimits limits → IsIntact store [] → IsSound (record { keys = keys; limits = limits; next = 0; checkpointed = 0; since = 0; store = store })
@@ -216,6 +223,10 @@ IsSound-opened keys limits store is limited intact = record {
   few_since = omega arith;
   lived = omega arith;
 }
+
+-- a history without a limit is never as long as that
+pub never-reached : (p : Part) → IsSound p → p.limits.history ≡ NO_LIMIT → nat_le p.limits.history p.since ≡ false
+never-reached p sound none = lt-leb p.limits.history p.since (omega (arith, none, accepted-le-life p sound))
 
 -- one more command
 pub IsSound-served : (p : Part) (command : Command) (next checkpointed since : ℕ) (t : State) → IsSound p → checkpointed + since ≡ p.checkpointed + p.since + 1 → since ≤ p.limits.history → p.checkpointed + p.since < p.limits.life → length t.cells ≤ p.limits.cells → IsIntact t [] → IsFaithful t next (after (state_of p) command) → Spends 1 1 p.store t × SpendsNone p.store t → IsSound (record p { next = next; checkpointed = checkpointed; since = since; store = t })

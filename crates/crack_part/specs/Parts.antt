@@ -5,7 +5,6 @@ use Rattle.std.specs.List.Sorted.{IsPermutation}
 use Rattle.crack_row.specs.Commands.{change_of, range_of}
 use Rattle.crack_row.specs.Ranges.{Range, clipped}
 use Rattle.crack_row.specs.Rows.{row_with}
-use Rattle.crack_row.specs.declared.TheConstants.{GREATEST_LIMIT}
 use Rattle.crack_row.specs.declared.command.Change.{Change}
 use Rattle.crack_row.specs.declared.command.Change.TheVariants.{Place, Remove, Rewrite}
 use Rattle.crack_row.specs.declared.command.Command.{Command}
@@ -55,10 +54,6 @@ statistics_of part = record {
   commands_accepted = accepted_of (table_of part);
   commands_since_checkpoint = part.since;
 }
-
--- a history may be limited to this many entries: at least 1, and at most `GREATEST_LIMIT`
-abbrev pub IsLimit : ℕ → Type 0
-IsLimit limit = (1 ≤ limit) × (limit ≤ GREATEST_LIMIT)
 
 -- the live rows of a store are the plain rows, in some order, and `next` is the next serial of the plain rows
 pub record IsFaithful (store : State) (next : ℕ) (plain : PlainState) : Type 0 where

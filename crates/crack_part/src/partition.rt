@@ -4,14 +4,15 @@ ghost use Rattle.std.specs.Prelude.{true, false, IsFalse, IsOk, IfOk, IfErr, IfS
 ghost use Rattle.crack_row.specs.Commands.{change_of, key_of, range_of};
 ghost use Rattle.crack_row.specs.Replies.{IsFlat};
 ghost use Rattle.crack_row.specs.Layouts.{IsLayout};
-ghost use Rattle.crack_row.specs.Limits.{AreLimits, of_history};
+ghost use Rattle.crack_row.specs.Limits.{IsLimit, AreLimits, of_history};
+ghost use Rattle.crack_row.specs.declared.TheConstants.{NO_LIMIT};
 ghost use Rattle.crack_plain.specs.Plain.{PlainState, IsNumbered, reply_to, after, IsSmall};
 ghost use Rattle.crack_state.specs.State.{State, IsIntact};
 ghost use Rattle.crack_state.specs.Steps.{SameButRoom};
 ghost use Rattle.crack_state.specs.Merge.{IsSettled};
 ghost use Rattle.crack_state.specs.Points.{row_by};
 ghost use Rattle.crack_store.specs.Inside.{no_cells, IsLayoutOf};
-ghost use Rattle.crack_part.specs.Parts.{state_of, table_of, checkpointed_part, IsLimit, IsSound, IsFaithful};
+ghost use Rattle.crack_part.specs.Parts.{state_of, table_of, checkpointed_part, IsSound, IsFaithful};
 ghost use Rattle.crack_part.specs.Parts.{CracksAndMerges, StopsAt};
 ghost use Rattle.crack_part.specs.Parts.{Serves, ServesCleared, Spares, SparesCleared, Prepares, Performs};
 ghost use Rattle.crack_part.specs.Forgetting.{PreparesBy, SparesBy, ServesBy, StopsBy};
@@ -188,9 +189,12 @@ impl Partition {
         self.store.layout()
     }
 
-    /// Why `apply` would refuse the command even if memory is found; `None` if it wouldn't refuse it then. O(1).
+    /// Why `apply` would refuse the command even if memory is found; `None` if it wouldn't refuse it then. It is never
+    /// `HistoryFull` if the history has no limit. O(1).
     pub fn refusal(&self, command: &Command) -> Option<Refusal>
-        ensures { result ≡ refusal_of self.now command.now }
+        ensures value { result ≡ refusal_of self.now command.now }
+        ensures unlimited { self.now.limits.history ≡ NO_LIMIT → (length : ℕ) →
+            result ≡ Some (Refusal.HistoryFull length) → ⊥ }
     {
         if let Err(refusal) = self.may_keep(command) {
             return Some(refusal);
@@ -211,9 +215,10 @@ impl Partition {
     }
 
     /// Whether a checkpoint is made before the next command that is answered: upkeep is automatic, and as many
-    /// commands as the limit were accepted since the last checkpoint. O(1).
+    /// commands as the limit were accepted since the last checkpoint. Never if the history has no limit. O(1).
     pub fn is_due(&self) -> bool
-        ensures { result ≡ is_due self.now.limits self.now.since }
+        ensures value { result ≡ is_due self.now.limits self.now.since }
+        ensures unlimited { self.now.limits.history ≡ NO_LIMIT → result ≡ false }
     {
         self.is_at_limit() && is_automatic(self.limits.upkeep)
     }
