@@ -18,7 +18,7 @@ static void *load(void *given) {
     struct shard *it = given;
     const uint64_t n = it->rows;
     pthread_mutex_lock(&it->lock);
-    it->status = crackd_open(&it->handle, it->keys, 0, 65536, CRACKD_MOST_CELLS, CRACKD_MOST_LIFE);
+    it->status = crackd_open(&it->handle, it->keys, 0, CRACKD_NO_LIMIT, CRACKD_MOST_CELLS, CRACKD_MOST_LIFE);
     if (!it->status)
         it->status = crackd_insert_many(&it->handle, it->keys, n, it->payloads, n,
                                         it->parts, n, it->serials, n, &it->done);

@@ -61,7 +61,9 @@ enum {
    chooses one. */
 enum { CRACKD_COMPLETE = 0, CRACKD_GRADUAL = 1, CRACKD_RIPPLE = 2, CRACKD_AUTO = 3 };
 
-/* The greatest limits of a partition: commands between checkpoints, cells of rows, and commands that it may answer. */
+/* The greatest limits of a partition: commands between checkpoints, cells of rows, and commands that it may answer. A
+   table whose `history` is CRACKD_NO_LIMIT makes checkpoints only on request. */
+#define CRACKD_NO_LIMIT UINT64_C(0)
 #define CRACKD_MOST_HISTORY UINT64_C(1000000)
 #define CRACKD_MOST_CELLS UINT64_C(16777215)
 #define CRACKD_MOST_LIFE UINT64_C(1099511627776)
@@ -70,7 +72,7 @@ enum { CRACKD_COMPLETE = 0, CRACKD_GRADUAL = 1, CRACKD_RIPPLE = 2, CRACKD_AUTO =
 
        crackd_handle table = {0};
        const uint64_t splits[] = {500000};
-       uint32_t status = crackd_open(&table, splits, 1, 65536, CRACKD_MOST_CELLS, CRACKD_MOST_LIFE); */
+       uint32_t status = crackd_open(&table, splits, 1, CRACKD_NO_LIMIT, CRACKD_MOST_CELLS, CRACKD_MOST_LIFE); */
 typedef struct {
     void *at;
     bool is_open;
@@ -92,9 +94,10 @@ const char *crackd_version(void);
 
 /* Opens an empty table in a handle that holds none. Splits are at most 63 rising keys, 1 to 2^64 - 1; each is the first
    key of a partition, so there is one partition more than splits. `history` is the number of commands after which a
-   partition makes a checkpoint, 1 to CRACKD_MOST_HISTORY. `cells` is the greatest number of cells for the rows of a
-   partition, 1 to CRACKD_MOST_CELLS. `life` is the greatest number of commands that a partition may ever answer, 1 to
-   CRACKD_MOST_LIFE. Returns 102, 11, 12 or 14, tested in this order, or 8; then the handle is unchanged. */
+   partition makes a checkpoint, 1 to CRACKD_MOST_HISTORY, or CRACKD_NO_LIMIT, 0, if it makes none by itself. `cells` is
+   the greatest number of cells for the rows of a partition, 1 to CRACKD_MOST_CELLS. `life` is the greatest number of
+   commands that a partition may ever answer, 1 to CRACKD_MOST_LIFE. Returns 102, 11, 12 or 14, tested in this order, or
+   8; then the handle is unchanged. */
 uint32_t crackd_open(crackd_handle *handle, const uint64_t *splits, size_t splits_len, uint64_t history, uint64_t cells,
                      uint64_t life);
 
@@ -135,7 +138,8 @@ uint32_t crackd_layout(crackd_handle *handle, uint32_t part, crackd_totals *tota
                        uint64_t *sizes, size_t sizes_len);
 
 /* Makes a checkpoint of a partition, and writes how many commands the partition has answered since the last one. Rows
-   and their numbers don't change. A partition makes a checkpoint by itself when one is due. Returns 101 or 5. */
+   and their numbers don't change. With a limit of the history a partition also makes one by itself when it is due.
+   Returns 101 or 5. */
 uint32_t crackd_checkpoint(crackd_handle *handle, uint32_t part, uint64_t *folded);
 
 /* Writes how many commands the partitions have answered since the opening: one for each row to be inserted, updated or

@@ -395,14 +395,33 @@ static void check_openings(void) {
     EXPECT(11, crackd_open(&handle, falling, 2, 1, 1, 1));
     EXPECT(11, crackd_open(&handle, least, 1, 1, 1, 1));
     EXPECT(12, crackd_open(&handle, many, 64, 1, 1, 1));
-    EXPECT(14, crackd_open(&handle, many, 0, 0, 1, 1));
     EXPECT(14, crackd_open(&handle, many, 0, CRACKD_MOST_HISTORY + 1, 1, 1));
+    EXPECT(14, crackd_open(&handle, many, 0, UINT64_MAX, 1, 1));
+    EXPECT(14, crackd_open(&handle, many, 0, CRACKD_NO_LIMIT, 0, 1));
+    EXPECT(14, crackd_open(&handle, many, 0, CRACKD_NO_LIMIT, 1, 0));
     EXPECT(14, crackd_open(&handle, many, 0, 1, CRACKD_MOST_CELLS + 1, 1));
     EXPECT(14, crackd_open(&handle, many, 0, 1, 1, CRACKD_MOST_LIFE + 1));
     EXPECT(false, handle.is_open);
     EXPECT(0, crackd_open(&handle, many, 63, 1, 1, 1));
     EXPECT(102, crackd_open(&handle, many, 0, 1, 1, 1));
     EXPECT(0, crackd_close(&handle));
+}
+
+/* A history has a limit only if one is given: then a checkpoint is made once it has as many entries. */
+static void check_histories(void) {
+    const uint64_t limits[2] = {CRACKD_NO_LIMIT, 1000}, commands[2] = {CRACKD_MOST_HISTORY + 1, 1001};
+    const uint64_t since[2] = {CRACKD_MOST_HISTORY + 1, 1};
+    for (int k = 0; k < 2; k++) {
+        crackd_handle handle = {0};
+        uint64_t number = 9, refused = 0;
+        EXPECT(0, crackd_open(&handle, SPLITS, 0, limits[k], 1, CRACKD_MOST_LIFE));
+        for (uint64_t asked = 0; asked < commands[k]; asked++)
+            refused += crackd_count(&handle, CRACKD_AUTO, 0, 9, &number) != 0;
+        EXPECT(0, refused);
+        EXPECT(0, crackd_checkpoint(&handle, 0, &number));
+        EXPECT(true, number == since[k]);
+        EXPECT(0, crackd_close(&handle));
+    }
 }
 
 /* The refusals of changes, and that calls for many stop there. */
@@ -466,6 +485,7 @@ int main(void) {
     EXPECT(0, strncmp(crackd_version(), "crackd ", 7));
     check_closed();
     check_openings();
+    check_histories();
     check_refusals();
     check_cells();
     run_steps(0);

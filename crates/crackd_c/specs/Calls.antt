@@ -3,6 +3,7 @@
 use Rattle.std.specs.Prelude.{◌≡◌, ◌⊎◌, ◌<◌, ◌≤◌, ℕ, ◌==◌, true, false, All, List, map, length, Option, None, Some, IfOk, OnOk, OnErr, MatchOption, Result, MatchResult, slice_get, slice_index_or, if◌then◌else◌}
 use Rattle.std.specs.List.{AllByRecursion}
 use Rattle.std.specs.Option.{option_map_or}
+use Rattle.crack_row.specs.Limits.{history_limit}
 use Rattle.crack_row.specs.Refusals.{code_of}
 use Rattle.crack_row.specs.declared.TheConstants.{GREATEST_KEY}
 use Rattle.crack_row.specs.declared.Bound.{Bound}
@@ -43,6 +44,10 @@ PiecesIn pieces lows sizes = (k : ℕ) (piece : PieceSize) → slice_get pieces 
 -- the return value of a call that was made: 0 if it was answered, else the number of its refusal
 abbrev pub status_of : Option Refusal → ℕ
 status_of refusal = option_map_or code_of refusal 0
+
+-- the limit of a history for the number that C passed: none if it is 0, else as `history_limit` says
+abbrev pub history_from : ℕ → ℕ
+history_from number = history_limit (if number == 0 then None else Some number)
 
 -- the bounds with these numbers, in order
 abbrev pub bounds_at : List ℕ → List Bound

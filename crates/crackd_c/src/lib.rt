@@ -13,7 +13,7 @@ ghost use Rattle.crack_core.specs.Bulk.{InsertsAt, DeletesAt, UpdatesAt, CountsA
 ghost use Rattle.crack_core.specs.Listing.{Selects};
 ghost use Rattle.crack_core.specs.Steps.{accepted_by};
 ghost use Rattle.crackd_c.specs.Calls.{OnTable, OnLists, ByPolicy, ComesOut, GoesThrough, Shows, CheckpointsOne};
-ghost use Rattle.crackd_c.specs.Calls.{OpensHandle};
+ghost use Rattle.crackd_c.specs.Calls.{OpensHandle, history_from};
 
 pub mod handle;
 pub mod opening;
@@ -29,8 +29,9 @@ use status::{
 };
 use std::alloc::Global;
 
-/// Opens a table with these splits, and with these limits for each partition, in the handle. A partition makes a
-/// checkpoint if a command finds its history full, and frees the cells of deleted rows if one finds no free cell.
+/// Opens a table with these splits, and with these limits for each partition, in the handle. If `history` is 0, there
+/// is no limit of a history. A partition makes a checkpoint if a command finds its history full, and frees the cells of
+/// deleted rows if one finds no free cell.
 /// Returns `ALREADY_OPEN` if the handle already holds a table. Refused as `opening::open` is. The handle is unchanged
 /// unless the call is answered. O(splits).
 #[unsafe(no_mangle)]
@@ -44,13 +45,13 @@ pub extern "C" fn crackd_open(
 ) -> u32
     ensures open { handle.old.is_open ≡ true → (result ≡ ALREADY_OPEN) × (handle.new ≡ handle.old) }
     ensures opens { handle.old.is_open ≡ false → OpensHandle handle.old handle.new splits.now
-        (record { history = history; cells = cells; life = life; upkeep = Upkeep.Automatic }) result }
+        (record { history = history_from history; cells = cells; life = life; upkeep = Upkeep.Automatic }) result }
 {
     if handle.is_open() {
         return ALREADY_OPEN;
     }
     let limits = Limits {
-        history,
+        history: opening::history_from(history),
         cells,
         life,
         upkeep: Upkeep::Automatic,

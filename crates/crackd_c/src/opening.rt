@@ -4,7 +4,7 @@ ghost use Rattle.crack_row.specs.declared.Bound.{Bound};
 ghost use Rattle.crack_core.specs.Opening.{opening_fault, MayFault};
 ghost use Rattle.crack_core.specs.Steps.{fresh_table};
 ghost use Rattle.crack_part.specs.Parts.{Part, table_of};
-ghost use Rattle.crackd_c.specs.Calls.{bounds_at};
+ghost use Rattle.crackd_c.specs.Calls.{bounds_at, history_from};
 
 use crack_core::Core;
 use crack_row::{Bound, BoundNumber, Limits, Refusal};
@@ -23,6 +23,14 @@ pub fn open(alloc: Global, splits: &[u64], limits: Limits) -> Result<Box<Core>, 
     let core = Core::open_with(alloc, &bounds, limits)?;
     let held = Box::new(alloc, core)?;
     Ok(held)
+}
+
+/// The limit of a history for the number that C passed, where 0 means that it has none. O(1).
+pub fn history_from(number: u64) -> u64
+    ensures { result ≡ history_from number }
+{
+    let given = if number == 0 { None } else { Some(number) };
+    Limits::history_limit(given)
 }
 
 /// The bounds with these numbers, in order. Refused with `OutOfMemory` if no memory is found for the list.
