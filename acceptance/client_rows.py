@@ -13,7 +13,7 @@ import collections
 
 from compare import FOLDED, Counts, check_layout, numbers_of
 from fixtures import Client, Wrong, expect
-from plain_session import MOST, DEFAULT_CELLS, MOST_ENTRIES, MOST_LIFE, RANGES, Limits, Part, Said, Session, read_line
+from plain_session import MOST, MOST_CELLS, MOST_LIFE, NO_LIMIT, RANGES, Limits, Part, Said, Session, read_line
 
 FULL, NO_CELL, OVER = 6, 9, 10
 Number = tuple[int, int]
@@ -97,8 +97,8 @@ class Own:
         (kind, numbers), limits = said, self.limits
         needs_cell = kind == "insert" or (kind == "update" and numbers[1] in self.session.parts[numbers[0]].rows)
         may_come = {
-            f"refused {FULL} {limits.history}": (FULL, limits.history < MOST_ENTRIES and not limits.is_automatic),
-            f"refused {NO_CELL}": (NO_CELL, limits.cells < DEFAULT_CELLS and needs_cell),
+            f"refused {FULL} {limits.history}": (FULL, limits.history < NO_LIMIT and not limits.is_automatic),
+            f"refused {NO_CELL}": (NO_CELL, limits.cells < MOST_CELLS and needs_cell),
             f"refused {OVER}": (OVER, limits.life < MOST_LIFE),
         }
         number, may = may_come.get(lines[0], (None, False))

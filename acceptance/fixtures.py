@@ -32,10 +32,10 @@ CRATES = TOP / "crates"
 # how long a child or a server may take, how long a client may wait for a reply, and how often another port is tried
 SECONDS, PATIENT_SECONDS, TRIES, MOST_WORKERS = 60, 120, 5, 64
 COMPILERS = ["cc", "gcc", "clang", "tcc"]
-PORT_IS_TAKEN = "crackd: refused 17\n"
+PORT_IS_TAKEN = "crackd: refused 17: reading failed, or the port is not available\n"
 # the time of a line in a server's log, by RFC 3339 in UTC; such a line; and the line of a refused run, without a time
 TIME = r"\d{4}-(?:0[1-9]|1[0-2])-(?:0[1-9]|[12]\d|3[01])T(?:[01]\d|2[0-3]):[0-5]\d:[0-5]\dZ"
-TIMED, REFUSED_RUN = re.compile(rf"({TIME}) (crackd: .+)"), re.compile(r"crackd: refused \d+")
+TIMED, REFUSED_RUN = re.compile(rf"({TIME}) (crackd: .+)"), re.compile(r"crackd: refused \d+: .+")
 CONTROL_C, CONTROL_D = "\x03", "\x04"
 # a dumb terminal gets no escape sequences for line editing
 DUMB = {"TERM": "dumb", "INPUTRC": "/dev/null"}

@@ -20,7 +20,19 @@ import typing
 # the least and greatest keys and payloads; a range may end at the first number above all keys
 MOST, LEAST_PAYLOAD, MOST_PAYLOAD = 2**64, -(2**63), 2**63 - 1
 LINE_BYTES, DIGITS = 200, 20
-MOST_ENTRIES, DEFAULT_CELLS, MOST_LIFE = 1000000, 1048576, 1099511627776
+MOST_ENTRIES, MOST_CELLS, MOST_LIFE = 1000000, 16777215, 1099511627776
+# stands for no limit of a history, which isn't as long as this
+NO_LIMIT = 2**64
+# why a run that loads CSV is refused, in words
+CAUSES = {
+    "6": "the history is full and needs a checkpoint",
+    "8": "out of memory, or a thread could not be started",
+    "9": "no cell is free for the row",
+    "10": "the partition has accepted as many commands as it may",
+    "17": "reading failed, or the port is not available",
+    "18": "writing failed",
+    "19": "the record is not a key and a payload",
+}
 POLICIES = ["complete", "gradual", "ripple", "auto"]
 RANGES = ("count", "sum", "select")
 BLANK, NO_CELL = "blank", "refused 9"
@@ -53,15 +65,16 @@ class Refused(Exception):
 class Limits(typing.NamedTuple):
     """The limits of each partition, and whether it makes checkpoints that are due by itself."""
 
-    history: int = MOST_ENTRIES
-    cells: int = DEFAULT_CELLS
+    history: int = NO_LIMIT
+    cells: int = MOST_CELLS
     life: int = MOST_LIFE
     is_automatic: bool = False
 
     def words(self) -> list[str]:
         """The options of the command line."""
         upkeep = ["--auto-checkpoint"] if self.is_automatic else []
-        return ["--limit", str(self.history), "--cells", str(self.cells), "--life", str(self.life), *upkeep]
+        history = ["--limit", str(self.history)] if self.history != NO_LIMIT else []
+        return [*history, "--cells", str(self.cells), "--life", str(self.life), *upkeep]
 
 
 def bounds_of(words: typing.Sequence[str]) -> tuple[list[int], Limits]:
@@ -384,6 +397,11 @@ def records(given: bytes) -> list[list[bytes]]:
     return found
 
 
+def complaint(refusal: object) -> bytes:
+    """What a run that ends with this refusal writes to standard error."""
+    return f"crackd: {refusal}: {CAUSES[str(refusal).split()[1]]}\n".encode("ascii")
+
+
 def exported(given: bytes, splits: typing.Iterable[int] = (), limits: Limits = Limits()) -> tuple[int, bytes, bytes]:
     """The result of loading CSV and exporting it: status, export and standard error.
 
@@ -401,5 +419,5 @@ def exported(given: bytes, splits: typing.Iterable[int] = (), limits: Limits = L
         for part in session.parts:
             wrote += b"".join(b"%d,%d\n" % (key, payload) for _, key, payload in part.between(0, MOST))
     except Refused as refused:
-        return 1, wrote, f"crackd: {refused}\n".encode("ascii")
+        return 1, wrote, complaint(refused)
     return 0, wrote, b""

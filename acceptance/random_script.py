@@ -11,7 +11,7 @@ import typing
 
 import compare
 import fixtures
-from plain_session import LEAST_PAYLOAD, MOST, MOST_ENTRIES, MOST_PAYLOAD, POLICIES, RANGES
+from plain_session import LEAST_PAYLOAD, MOST, MOST_PAYLOAD, NO_LIMIT, POLICIES, RANGES
 from plain_session import Limits, Part, Session, read_line, statements
 
 # the limits of numbers of 31, 32, 63 and 64 bits: with too few bits, or another sign, these become other numbers
@@ -135,7 +135,7 @@ def script(seed: int) -> tuple[list[str], bytes, list[int], Limits]:
     most, (count, small, life) = KEYS[seed % 3], SPLITS[seed // 3 % 3]
     is_tight, is_automatic = bool(seed // 9 % 2), bool(seed // 18 % 2)
     splits = random_splits(numbers, most, count)
-    limits = Limits(small if most == KEYS[-1] else MOST_ENTRIES, is_automatic=is_automatic)
+    limits = Limits(small if most == KEYS[-1] else NO_LIMIT, is_automatic=is_automatic)
     if is_tight:
         bounds = numbers.randrange(5, 60), numbers.randrange(3, 30), numbers.randrange(3 * life // 4, life)
         limits = Limits(*bounds, is_automatic=is_automatic)

@@ -8,7 +8,7 @@ import fixtures
 import random_script
 import run_cases
 from fixtures import expect
-from plain_session import HEADER, MARK, Limits, exported
+from plain_session import HEADER, MARK, Limits, complaint, exported
 
 SMALL = b"key,payload\n150,6\n50,5\n"
 # fields beyond the limits of keys and of payloads; and fields that are neither
@@ -18,7 +18,7 @@ NONE = [b"", b" 1", b"+1", b"- 1", b"-", b"x", b"0" * 21, b'1"2', MARK + b"1"]
 
 def refused(record: int) -> fixtures.Ended:
     """The result of an input whose record with this number isn't a row."""
-    return 1, b"", b"crackd: refused 19 %d\n" % record
+    return 1, b"", complaint(f"refused 19 {record}")
 
 
 def check_input(

@@ -16,9 +16,9 @@ import fixtures
 import plain_session
 import random_script
 from fixtures import SECONDS, Terminal, expect
-from plain_session import Session
+from plain_session import Session, complaint
 
-READ_FAULT, WRITE_FAULT = b"crackd: refused 17\n", b"crackd: refused 18\n"
+READ_FAULT, WRITE_FAULT = complaint("refused 17"), complaint("refused 18")
 GIVEN = b"insert 1 10\ninsert 2 -20\nnonsense\nselect 0 5\nsum 0 5\n"
 WANTED = b"row 0.0\nrow 0.1\nrefused 1\nrows 2\n0.0 1 10\n0.1 2 -20\nsum -10\n"
 RECORDS = b"key,payload\n1,10\n2,-20\n"

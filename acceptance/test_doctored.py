@@ -169,7 +169,7 @@ class Reference(unittest.TestCase):
         (typed,) = run_cases.all_cases("payloads-that-are-typed")
         for line in typed.given.splitlines()[:-1]:
             word, said = line.removeprefix(b"insert 7 "), plain_session.read_line(line)
-            wrote = (1, b"", b"crackd: refused 19 1\n")
+            wrote = (1, b"", plain_session.complaint("refused 19 1"))
             if said != "refused 1":
                 wrote = (0, b"key,payload\n7,%d\n" % said[1][1], b"")
             self.assertEqual(exported(b"7," + word), wrote, word)

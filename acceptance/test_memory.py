@@ -28,13 +28,13 @@ import run_cases
 import test_units
 from compare import SHORT, Seen, check_totals, compare
 from fixtures import CRATES, Wrong, expect, refusing
-from plain_session import POLICIES, Limits, Part, Session, bounds_of, statements
+from plain_session import POLICIES, Limits, Part, Session, bounds_of, complaint, statements
 
 SECONDS = 20
 FOR_EVER = 2**63
 STATEMENTS = 200
 CHANCES, ONE_IN = 40, 50
-REFUSED = b"crackd: refused 8\n"
+REFUSED = complaint("refused 8")
 # how many seeds there are of each kind
 RANDOM_SWEEPS, WORKER_SWEEPS = 4, 2
 # and how many scripts, each in one way under one policy, where not all is tried

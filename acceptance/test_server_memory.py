@@ -16,7 +16,7 @@ import fixtures
 import test_memory
 from compare import SHORT, Seen, check_totals, take
 from fixtures import FAULTS, SECONDS, Client, Server, expect, refusing
-from plain_session import MOST, Session, read_line
+from plain_session import MOST, Session, complaint, read_line
 
 SPLITS, FOR_EVER = [2**62, 2**63], 2**63
 ALL, OF_TWO_PARTS = f"select 0 {MOST}", f"select 0 {2**63}"
@@ -156,7 +156,7 @@ def run_once(program: str, which: dict[str, int]) -> tuple[int, int, int]:
             server.close()
             status, wrote, complained = server.ended()
         calls, refused = counted()
-    if (status, complained) == (1, f"crackd: {SHORT}\n") and (refused > turns.refused or not is_served):
+    if (status, complained) == (1, complaint(SHORT).decode()) and (refused > turns.refused or not is_served):
         expect("what a server wrote that ended with 8", "", wrote)
         return first, calls, refused
     expect("status and standard error, and whether clients came", (0, "", True), (status, complained, is_served))

@@ -1,19 +1,20 @@
 //! The command line of `crackd`: parses words into a request.
 #![tactic(auto)]
 
+ghost use Rattle.std.specs.Prelude.{◌≡◌, ◌≤◌, IfOk};
+
 mod help;
 
 use clap::error::ErrorKind;
 use clap::{Arg, ArgAction, ArgMatches, Command, value_parser};
-use crack_row::{Bound, BoundNumber, GREATEST_LIMIT, Limits, Policy, Refusal, Upkeep};
+use crack_row::{
+    Bound, BoundNumber, GREATEST_CELLS, GREATEST_LIFE, Limits, Policy, Refusal, Upkeep,
+};
 use std::alloc::{AllocError, Global};
 use thiserror::Error;
 
 /// The version of the program, as `--version` prints it.
 pub const VERSION: &str = "0.1.0";
-
-/// The option that explains errors, anywhere on a command line.
-const WORDS: &str = "--words";
 
 /// The request of a command line.
 #[derive(Drop)]
@@ -35,10 +36,10 @@ pub enum Request {
 pub struct TableOptions {
     /// The splits: any numbers of 64 bits, in the order of the command line.
     pub splits: Vec<Bound>,
-    /// The limits of a partition: by default `DEFAULT_CELLS` cells, the greatest of the other limits, and upkeep on
+    /// The limits of a partition: by default none of its history, the greatest of the other limits, and upkeep on
     /// request.
     pub limits: Limits,
-    /// How pending rows are merged: by default `Policy::Ripple`.
+    /// How pending rows are merged: by default `Policy::Auto`.
     pub policy: Policy,
 }
 
@@ -57,7 +58,7 @@ pub struct ServeOptions {
     pub opening: TableOptions,
     /// The number of workers, or `None` for as many as there are processors. The opening refuses a number out of range.
     pub workers: Option<u64>,
-    /// The port of 127.0.0.1 to listen on, which isn't 0.
+    /// The port of 127.0.0.1 to listen on, or 0 for one that is free.
     pub port: u16,
     /// How many connections are served, or `None` to serve until the input ends.
     pub sessions: Option<u64>,
@@ -78,16 +79,27 @@ pub struct ServeOptions {
 /// The names of the policies.
 static POLICIES: [&str; 4] = ["complete", "gradual", "ripple", "auto"];
 
-/// Why a command line isn't a request. Its text is written to standard error.
+/// Why a command line isn't a request. Its text, one line, is written to standard error.
 #[derive(Drop, Debug, Error)]
 pub enum ArgumentsError {
-    /// A word or an option is unknown, an option is missing or given twice, a value isn't a number of 64 bits or is
-    /// out of range, or a policy is unknown.
-    #[error("bad arguments")]
-    Bad,
-    /// As `Bad`, with the parser's own text.
-    #[error("bad arguments\n{0}")]
-    Explained(String),
+    /// A word isn't text.
+    #[error("bad arguments: a word is not text in UTF-8")]
+    NotText,
+    /// The parser's own reason: a word or an option is unknown, an option is missing or given twice, a value isn't a
+    /// number of 64 bits, or a policy is unknown.
+    #[error("bad arguments: {0}")]
+    Unparsed(String),
+    /// The number `given` for an option isn't between `least` and `most`.
+    #[error("bad arguments: --{option} must be {least} to {most}, not {given}")]
+    OutOfRange {
+        option: &'static str,
+        least: u64,
+        most: u64,
+        given: u64,
+    },
+    /// What the options don't agree on, or what is missing.
+    #[error("bad arguments: {0}")]
+    Unclear(&'static str),
     /// No memory was found to parse the command line.
     #[error("{0}")]
     Refused(Refusal),
@@ -113,14 +125,17 @@ enum Value {
 /// An option: its name, its value and its help.
 struct Choice(&'static str, Value, &'static str);
 
-/// The number of cells of a partition without `--cells`.
-const DEFAULT_CELLS: u64 = 1048576;
-
 /// The number of clients that may be connected at once without `--clients`.
 const DEFAULT_CLIENTS: u64 = 10000;
 
 /// The greatest number for `--clients`.
 const MOST_CLIENTS: u64 = 1000000;
+
+/// The greatest port.
+const MOST_PORT: u64 = 65535;
+
+/// The greatest number of seconds.
+const MOST_SECONDS: u64 = 4294967295;
 
 /// How many seconds a server waits at its end for busy connections without `--drain`.
 const DEFAULT_DRAIN: u64 = 10;
@@ -137,12 +152,12 @@ static OPENING_CHOICES: [Choice; 4] = [
     Choice(
         "limit",
         Value::Number("N"),
-        "Length of a history, 1 to 1000000 [default: 1000000]",
+        "Length of a history, 1 to 1000000 [default: none]",
     ),
     Choice(
         "cells",
         Value::Number("N"),
-        "Cells of a partition, 1 to 16777215 [default: 1048576]",
+        "Cells of a partition, 1 to 16777215 [default: 16777215]",
     ),
     Choice(
         "life",
@@ -171,7 +186,7 @@ static SERVER_CHOICES: [Choice; 10] = [
     Choice(
         "port",
         Value::Required("N"),
-        "The port of 127.0.0.1 to listen on, 1 to 65535",
+        "Port of 127.0.0.1, 0 to 65535; 0 takes a free one",
     ),
     Choice(
         "workers",
@@ -216,11 +231,11 @@ static SERVER_CHOICES: [Choice; 10] = [
     AUDIT,
 ];
 
-/// The option `--words` of the program.
-static WORDS_CHOICE: Choice = Choice(
+/// The option `--words` of the program, which older versions needed to explain errors.
+static WORDS: Choice = Choice(
     "words",
     Value::Flag,
-    "Explains errors in words, on standard error",
+    "Has no effect: errors are always explained",
 );
 
 /// The parser's option for a choice: a flag, or an option with a number, which may be required.
@@ -293,7 +308,7 @@ fn policy_option<'a>(alloc: Global) -> Arg<'a> {
         .value_name("NAME")
         .value_parser(POLICIES.as_slice())
         .hide_possible_values(true)
-        .help("complete, gradual, ripple or auto [default: ripple]")
+        .help("complete, gradual, ripple or auto [default: auto]")
 }
 
 /// The values that belong to no option: the splits, any number of numbers of 64 bits.
@@ -370,7 +385,7 @@ fn program<'a>(alloc: Global) -> Built<'a> {
         .version(VERSION)
         .after_help(help::OF_PROGRAM)
         .subcommand_required(true)
-        .arg(option_of(alloc, &WORDS_CHOICE).global(true))
+        .arg(option_of(alloc, &WORDS).global(true))
 }
 
 /// The program's own command for the parser, with its subcommands.
@@ -381,13 +396,13 @@ fn command_line<'a>(alloc: Global) -> Built<'a> {
     with_subcommand(with_serve, csv_command(alloc))
 }
 
-/// The policy on the command line, or `Ripple` if there is none.
+/// The policy on the command line, or `Auto` if there is none.
 fn policy_of(matches: &ArgMatches<'_>) -> Policy {
     match matches.get_str("policy") {
         Some("complete") => Policy::Complete,
         Some("gradual") => Policy::Gradual,
-        Some("auto") => Policy::Auto,
-        _ => Policy::Ripple,
+        Some("ripple") => Policy::Ripple,
+        _ => Policy::Auto,
     }
 }
 
@@ -397,7 +412,7 @@ fn splits_of(alloc: Global, matches: &ArgMatches<'_>) -> Result<Vec<Bound>, Argu
     if let Some(found) = matches.get_many::<u64>("splits") {
         'splits: for split in found {
             let Ok(split) = split else {
-                return Err(ArgumentsError::Bad);
+                return Err(ArgumentsError::Unclear("a split is not a number"));
             };
             let split = Bound::from_number(BoundNumber::from(split));
             if splits.push(split).is_err() {
@@ -408,15 +423,14 @@ fn splits_of(alloc: Global, matches: &ArgMatches<'_>) -> Result<Vec<Bound>, Argu
     Ok(splits)
 }
 
-/// The limits on the command line; their sizes aren't checked here. Where one isn't given it is `DEFAULT_CELLS` cells,
-/// a history of `GREATEST_LIMIT` entries, or a life of `GREATEST_LIFE` commands. Upkeep is `Automatic` with
+/// The limits on the command line; the opening checks their sizes. Where one isn't given, the history has none, there
+/// are `GREATEST_CELLS` cells, or the life is `GREATEST_LIFE` commands. Upkeep is `Automatic` with
 /// `--auto-checkpoint`, else `OnRequest`.
 fn limits_of(matches: &ArgMatches<'_>) -> Limits {
-    let greatest = Limits::of_history(GREATEST_LIMIT);
     Limits {
-        history: matches.get_one::<u64>("limit").unwrap_or(greatest.history),
-        cells: matches.get_one::<u64>("cells").unwrap_or(DEFAULT_CELLS),
-        life: matches.get_one::<u64>("life").unwrap_or(greatest.life),
+        history: Limits::history_limit(matches.get_one::<u64>("limit")),
+        cells: matches.get_one::<u64>("cells").unwrap_or(GREATEST_CELLS),
+        life: matches.get_one::<u64>("life").unwrap_or(GREATEST_LIFE),
         upkeep: upkeep_of(matches),
     }
 }
@@ -440,16 +454,36 @@ fn opening_of(alloc: Global, matches: &ArgMatches<'_>) -> Result<TableOptions, A
 }
 
 /// The number of the required option `name`. An error if it is missing or isn't a number of 64 bits.
-fn number_of(matches: &ArgMatches<'_>, name: &str) -> Result<u64, ArgumentsError> {
-    matches.get_one::<u64>(name).ok_or(ArgumentsError::Bad)
+fn number_of(matches: &ArgMatches<'_>, name: &'static str) -> Result<u64, ArgumentsError> {
+    matches
+        .get_one::<u64>(name)
+        .ok_or(ArgumentsError::Unclear("a number is missing"))
 }
 
-/// The port on the command line. An error unless it is 1 to 65535.
-fn port_of(matches: &ArgMatches<'_>) -> Result<u16, ArgumentsError> {
-    match u16::try_from(number_of(matches, "port")?) {
-        Ok(port) if port > 0 => Ok(port),
-        _ => Err(ArgumentsError::Bad),
+/// The number `given` for an option. An error unless it is between `least` and `most`.
+fn within(
+    option: &'static str,
+    least: u64,
+    most: u64,
+    given: u64,
+) -> Result<u64, ArgumentsError>
+    ensures { IfOk result (λ number. (number ≡ given) × (least ≤ number) × (number ≤ most)) }
+{
+    if least <= given && given <= most {
+        return Ok(given);
     }
+    Err(ArgumentsError::OutOfRange {
+        option,
+        least,
+        most,
+        given,
+    })
+}
+
+/// The port on the command line, or 0 for one that is free. An error unless it is at most 65535.
+fn port_of(matches: &ArgMatches<'_>) -> Result<u16, ArgumentsError> {
+    let port = within("port", 0, MOST_PORT, number_of(matches, "port")?)?;
+    Ok(port as u16)
 }
 
 /// The options of a batch. An error if the number of workers is missing, or as `opening_of` says.
@@ -467,27 +501,32 @@ fn batch_options_of(
 /// The number of sessions, or `None` to serve until the input ends. An error unless exactly one of `--sessions` and
 /// `--until-eof` is given.
 fn sessions_of(matches: &ArgMatches<'_>) -> Result<Option<u64>, ArgumentsError> {
-    let sessions = matches.get_one::<u64>("sessions");
-    if sessions.is_some() == matches.get_flag("until-eof") {
-        return Err(ArgumentsError::Bad);
+    match (
+        matches.get_one::<u64>("sessions"),
+        matches.get_flag("until-eof"),
+    ) {
+        (None, false) => Err(ArgumentsError::Unclear(
+            "one of --sessions and --until-eof must be given",
+        )),
+        (Some(_), true) => Err(ArgumentsError::Unclear(
+            "--sessions and --until-eof cannot be given together",
+        )),
+        (sessions, _) => Ok(sessions),
     }
-    Ok(sessions)
 }
 
 /// The number of clients that may be connected at once, `DEFAULT_CLIENTS` by default. An error unless it is 1 to
 /// `MOST_CLIENTS`.
 fn clients_of(matches: &ArgMatches<'_>) -> Result<u64, ArgumentsError> {
-    match matches.get_one::<u64>("clients").unwrap_or(DEFAULT_CLIENTS) {
-        clients if clients > 0 && clients <= MOST_CLIENTS => Ok(clients),
-        _ => Err(ArgumentsError::Bad),
-    }
+    let clients = matches.get_one::<u64>("clients").unwrap_or(DEFAULT_CLIENTS);
+    within("clients", 1, MOST_CLIENTS, clients)
 }
 
 /// How many seconds a server waits at its end for busy connections, `DEFAULT_DRAIN` by default. An error if it is
 /// above 2^32 - 1.
 fn drain_of(matches: &ArgMatches<'_>) -> Result<u32, ArgumentsError> {
     let seconds = matches.get_one::<u64>("drain").unwrap_or(DEFAULT_DRAIN);
-    u32::try_from(seconds).map_err(|_| ArgumentsError::Bad)
+    Ok(within("drain", 0, MOST_SECONDS, seconds)? as u32)
 }
 
 /// How many seconds a connection may wait for its client, or `None` for any time. An error unless it is 1 to 2^32 - 1.
@@ -495,10 +534,7 @@ fn idle_of(matches: &ArgMatches<'_>) -> Result<Option<u32>, ArgumentsError> {
     let Some(seconds) = matches.get_one::<u64>("idle") else {
         return Ok(None);
     };
-    match u32::try_from(seconds) {
-        Ok(seconds) if seconds > 0 => Ok(Some(seconds)),
-        _ => Err(ArgumentsError::Bad),
-    }
+    Ok(Some(within("idle", 1, MOST_SECONDS, seconds)? as u32))
 }
 
 /// The options of a server. An error if the port is missing, if not exactly one of `--sessions` and `--until-eof` is
@@ -542,51 +578,59 @@ fn csv_of(alloc: Global, matches: &ArgMatches<'_>) -> Result<Request, ArgumentsE
 /// memory is found.
 fn request_of(alloc: Global, matches: &ArgMatches<'_>) -> Result<Request, ArgumentsError> {
     let Some((name, found)) = matches.subcommand() else {
-        return Err(ArgumentsError::Bad);
+        return Err(ArgumentsError::Unclear("a command is missing"));
     };
     match name {
         "script" => script_of(alloc, found),
         "batch" => batch_of(alloc, found),
         "serve" => serve_of(alloc, found),
         "csv" => csv_of(alloc, found),
-        _ => Err(ArgumentsError::Bad),
+        _ => Err(ArgumentsError::Unclear("there is no such command")),
     }
 }
 
-/// Whether these words contain `--words`, the option that explains errors. O(words).
-pub fn asks_for_words(words: &[String]) -> bool {
-    words.iter().any(|word| word.as_str() == WORDS)
-}
-
 /// The outcome of a command line for which the parser returned this error: the text of the help or of the version, if
-/// it was requested; `Refused` if no memory was found; else `Explained` if `in_words`, or `Bad`.
-fn unmatched(
-    alloc: Global,
-    error: &clap::Error,
-    in_words: bool,
-) -> Result<Request, ArgumentsError> {
+/// it was requested; `Refused` if no memory was found; else `Unparsed`.
+fn unmatched(alloc: Global, error: &clap::Error) -> Result<Request, ArgumentsError> {
     match error.kind() {
         ErrorKind::DisplayHelp | ErrorKind::DisplayVersion => {
             Ok(Request::Help(error.to_string(alloc)?))
         }
         ErrorKind::OutOfMemory => Err(ArgumentsError::Refused(Refusal::OutOfMemory)),
-        _ if in_words => Err(explained(alloc, error)?),
-        _ => Err(ArgumentsError::Bad),
+        _ => Err(unparsed(alloc, error)?),
     }
 }
 
-/// The error `Explained` with the parser's own text, without the white space at its end. An error if no memory is
-/// found.
-fn explained(alloc: Global, error: &clap::Error) -> Result<ArgumentsError, AllocError> {
+/// The error `Unparsed` with the first paragraph of the parser's own text, which names the argument, as one line. An
+/// error if no memory is found.
+fn unparsed(alloc: Global, error: &clap::Error) -> Result<ArgumentsError, AllocError> {
     let text = error.to_string(alloc)?;
-    let line = String::from_str(alloc, text.trim_end())?;
+    let reason = first_paragraph(alloc, text.as_str())?;
     drop(text);
-    Ok(ArgumentsError::Explained(line))
+    Ok(ArgumentsError::Unparsed(reason))
+}
+
+/// The lines of a text up to the first blank one, each without white space at its ends, joined by spaces, and without
+/// the word `error: ` at the start. An error if no memory is found.
+fn first_paragraph(alloc: Global, text: &str) -> Result<String, AllocError> {
+    let said = text.strip_prefix("error: ").unwrap_or(text);
+    let mut paragraph = String::new(alloc);
+    'lines: for line in said.lines() {
+        let line = line.trim();
+        if line.is_empty() {
+            break;
+        }
+        if !paragraph.is_empty() {
+            paragraph.push(' ')?;
+        }
+        paragraph.push_str(line)?;
+    }
+    Ok(paragraph)
 }
 
 /// Parses the words of a command line, the first of which is the program's name, and returns its request. An error if
-/// the words aren't a valid command line, or if no memory is found. The parser's own errors are explained if `--words`
-/// is among the words. Takes memory for the parser, which is freed, and for the request.
+/// the words aren't a valid command line, or if no memory is found. Takes memory for the parser, which is freed, and
+/// for the request.
 pub fn read(alloc: Global, words: &[String]) -> Result<Request, ArgumentsError> {
     match command_line(alloc)?.try_get_matches_from(words) {
         Ok(matches) => {
@@ -595,7 +639,7 @@ pub fn read(alloc: Global, words: &[String]) -> Result<Request, ArgumentsError> 
             request
         }
         Err(error) => {
-            let request = unmatched(alloc, &error, asks_for_words(words));
+            let request = unmatched(alloc, &error);
             drop(error);
             request
         }

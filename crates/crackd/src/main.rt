@@ -5,9 +5,7 @@ mod readers;
 
 ghost use Rattle.crack_witness.specs.Witnesses.{AreNames};
 
-use crack_arguments::{
-    ArgumentsError, BatchOptions, Request, ServeOptions, TableOptions, asks_for_words,
-};
+use crack_arguments::{ArgumentsError, BatchOptions, Request, ServeOptions, TableOptions};
 use crack_core::Core;
 use crack_csv::{export_csv, load_csv};
 use crack_loop::{ServerEnding, Terms};
@@ -29,17 +27,14 @@ use std::thread::Threads;
 use std::time::{Clock, Duration};
 use std::{env, io, thread};
 
-/// The request of the command line, or why it has none; and whether errors are explained in words.
-fn request(rt: &HostRuntime) -> (Result<Request, ArgumentsError>, bool) {
+/// The request of the command line, or why it has none.
+fn request(rt: &HostRuntime) -> Result<Request, ArgumentsError> {
     match words(rt) {
-        Ok(words) => {
-            let request = crack_arguments::read(rt.alloc(), words.as_slice());
-            (request, asks_for_words(words.as_slice()))
-        }
+        Ok(words) => crack_arguments::read(rt.alloc(), words.as_slice()),
         Err(error) if error.kind() == ErrorKind::OutOfMemory => {
-            (Err(ArgumentsError::Refused(Refusal::OutOfMemory)), false)
+            Err(ArgumentsError::Refused(Refusal::OutOfMemory))
         }
-        Err(_) => (Err(ArgumentsError::Bad), false),
+        Err(_) => Err(ArgumentsError::NotText),
     }
 }
 
@@ -151,7 +146,7 @@ fn serve_named<
     }
     let mut writer = ImpatientOutput::new(rt.stdout());
     let host = console_of(handle, rt, service);
-    let served = match listen(handle, &host, &mut writer) {
+    let served = match listen(handle, &host, service.port, &mut writer) {
         Ok(listener) => run_service(
             handle,
             rt.alloc(),
@@ -235,7 +230,7 @@ fn prepared<
         &mut rt.stdin(),
         writer,
     )?;
-    Ok((listen(handle, host, writer)?, workers))
+    Ok((listen(handle, host, service.port, writer)?, workers))
 }
 
 /// The number of workers of a server. By default it is the number of processors, at most `MOST_WORKERS`, or 1 if the
@@ -278,7 +273,6 @@ fn has_upkeep(opening: &TableOptions) -> bool {
 struct Console<'a, R: Wait> {
     handle: &'a R,
     rt: &'a HostRuntime,
-    port: u16,
     is_quiet: bool,
     /// How many lines were dropped since the log last had their number. The lock is held while a line is written.
     dropped: Mutex<u64>,
@@ -293,7 +287,6 @@ fn console_of<'a, R: Wait>(
     Console {
         handle,
         rt,
-        port: service.port,
         is_quiet: service.is_quiet,
         dropped: Mutex::new(0),
     }
@@ -376,18 +369,23 @@ impl<'a, R: Wait> Console<'a, R> {
     }
 }
 
-/// Listens on the host's port of 127.0.0.1, and reports the port to the writer and the host. Refused with
-/// `ReadFault` if the port can't be bound, and with `WriteFault` if the writer fails.
+/// Listens on this port of 127.0.0.1, or on a free one if it is 0, and reports the port to the writer and the host.
+/// Refused with `ReadFault` if the port can't be bound, and with `WriteFault` if the writer fails.
 fn listen<H: Wait + Net<Listener = TcpListener, Stream = TcpStream>, W: Write>(
     handle: &H,
     host: &Console<'_, H>,
+    port: u16,
     writer: &mut W,
 ) -> Result<TcpListener, Refusal> {
-    let Ok(listener) = TcpListener::bind(handle, (Ipv4Addr::LOCALHOST, host.port)) else {
+    let Ok(listener) = TcpListener::bind(handle, (Ipv4Addr::LOCALHOST, port)) else {
         return Err(Refusal::ReadFault);
     };
-    announce(host.port, writer)?;
-    host.note(Notice::Listening { port: host.port });
+    let Ok(address) = listener.local_addr() else {
+        return Err(Refusal::ReadFault);
+    };
+    let port = address.port();
+    announce(port, writer)?;
+    host.note(Notice::Listening { port });
     Ok(listener)
 }
 
@@ -418,21 +416,16 @@ fn run_request<H: Threads + Wait + Net<Listener = TcpListener, Stream = TcpStrea
     done.map_err(Complaint::from)
 }
 
-/// Writes to standard error why the run was refused, in words if `in_words`. Returns the exit status of a failure, 1.
-fn complain(rt: &HostRuntime, complaint: Complaint, in_words: bool) -> ExitCode {
-    let _ = if in_words {
-        eprintln!(rt; "crackd: {complaint}")
-    } else {
-        eprintln!(rt; "crackd: {}", complaint.refusal())
-    };
+/// Writes to standard error why the run was refused, in words. Returns the exit status of a failure, 1.
+fn complain(rt: &HostRuntime, complaint: Complaint) -> ExitCode {
+    let _ = eprintln!(rt; "crackd: {complaint}");
     ExitCode::FAILURE
 }
 
 /// Runs the request of the command line. The exit status is 1 if it is refused, and 2 if there is no valid request. A
 /// refused server waits at most `LAST_MILLIS` for the reader of its log.
 fn main(rt: HostRuntime) -> ExitCode {
-    let (request, in_words) = request(&rt);
-    match request {
+    match request(&rt) {
         Ok(request) => {
             let is_server = matches!(&request, Request::Serve(_));
             let done = run_request(&rt, &rt, &request);
@@ -440,12 +433,10 @@ fn main(rt: HostRuntime) -> ExitCode {
             match done {
                 Ok(()) => ExitCode::SUCCESS,
                 Err(_) if is_server && !takes_line(STDERR_FILENO, LAST_MILLIS) => ExitCode::FAILURE,
-                Err(complaint) => complain(&rt, complaint, in_words),
+                Err(complaint) => complain(&rt, complaint),
             }
         }
-        Err(ArgumentsError::Refused(refusal)) => {
-            complain(&rt, Complaint::Refused(refusal), in_words)
-        }
+        Err(ArgumentsError::Refused(refusal)) => complain(&rt, Complaint::Refused(refusal)),
         Err(error) => {
             let _ = eprintln!(rt; "crackd: {error}");
             ExitCode::from(2)
