@@ -8,7 +8,7 @@ from __future__ import annotations
 
 import array
 import operator
-from typing import Any, Iterable, Sequence
+from typing import Any, Iterable, Optional, Sequence
 
 # numpy, or None
 np: Any
@@ -101,6 +101,11 @@ def whole(number: Any, what: str) -> int:
     except TypeError:
         pass
     raise TypeError(f"{what} must be an integer, not of type {type(number).__name__}")
+
+
+def whole_or_none(number: Any, what: str) -> Optional[int]:
+    """As `whole`, but None stays None."""
+    return None if number is None else whole(number, what)
 
 
 def shown(it: Any) -> str:

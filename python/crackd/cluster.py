@@ -10,14 +10,14 @@ from __future__ import annotations
 import threading
 from typing import Any, Callable, Iterator, Optional, Sequence
 
-from .arrays import TOP, np, whole
+from .arrays import TOP, np, whole, whole_or_none
 from .base import POLICIES, POLICY, parts_for
 from .errors import Closed, Error, ShardLost
 from .decimals import PayloadType
 from .folders import folder_of, reading, saving, write_manifest
 from .keys import Keys, keys_for, quantiles
 from .layout import keys_text
-from .local import HISTORY, MOST_CELLS
+from .local import MOST_CELLS
 from .routing import MOST_SHARDS, Cut, Sharded, checked_splits
 from .saved import BadSave, kept_of
 from .shard import (
@@ -112,7 +112,7 @@ class Table(Sharded):
         *,
         payload_decimals: Optional[int] = None,
         policy: str = POLICY,
-        history: int = HISTORY,
+        history: Optional[int] = None,
         cells: int = MOST_CELLS,
         **others: Any,
     ) -> None:
@@ -137,7 +137,7 @@ class Table(Sharded):
         self._shard_cuts = np.array(found, np.uint64)
         self.shards = len(self._shard_cuts) + 1
         inner = [self._inner_cuts(numbers, it, parts_for(rows // self.shards)) for it in range(self.shards)]
-        options = {"policy": policy, "history": whole(history, "history"), "cells": whole(cells, "cells")}
+        options = {"policy": policy, "history": whole_or_none(history, "history"), "cells": whole(cells, "cells")}
         self._futures = [self._begun(workers[at % len(workers)], it, options) for at, it in enumerate(inner)]
         try:
             self._actors = [self._actor(at, workers[at % len(workers)]) for at in range(self.shards)]

@@ -19,7 +19,6 @@ from .placed import NOWHERE, Placed, PlacedOne, Taken, joined
 from .routing import PartFinder
 from .typed import RowNumbers
 
-HISTORY = 1_000_000
 MOST_CELLS = 16_777_215
 MOST_LIFE = 1 << 40
 # A single call holds the interpreter's lock if it reads or moves at most this many rows. Then it takes about 4 ms at
@@ -40,6 +39,13 @@ CLOSED = 101
 ARRAYS = (array.array,) if np is None else (array.array, np.ndarray)
 
 
+def history_limit(history: Optional[int]) -> int:
+    """The limit of a history as the library takes it, 0 for none. A wrong one becomes one that the library refuses."""
+    if history is None:
+        return 0
+    return history if 0 < history < TOP else TOP - 1
+
+
 class LocalShard:
     """The rows of a range of keys, in a handle of the library. It answers one call at a time.
 
@@ -48,14 +54,19 @@ class LocalShard:
     """
 
     def __init__(
-        self, cuts: Sequence[int] = (), *, policy: str = POLICY, history: int = HISTORY, cells: int = MOST_CELLS
+        self,
+        cuts: Sequence[int] = (),
+        *,
+        policy: str = POLICY,
+        history: Optional[int] = None,
+        cells: int = MOST_CELLS,
     ):
         self._handle = Handle()
         self._library, self._ref = library(), byref(self._handle)
         self._lock: Any = threading.RLock()
         leave_in_children(self)
         self._policy, self.cuts, self.partitions = POLICIES.index(policy), list(cuts), len(cuts) + 1
-        limits = [it if 0 <= it < TOP else 0 for it in (history, cells, MOST_LIFE)]
+        limits = [history_limit(history), cells if 0 <= cells < TOP else 0, MOST_LIFE]
         self._check(self._run(self._library.open, from_ints("Q", cuts, "splits"), *limits))
         # about how many rows the shard has
         self.held = 0

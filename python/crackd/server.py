@@ -254,7 +254,8 @@ def serve(
     workers : int, optional
         The number of threads that serve connections, 1 to 64.
     history, cells : int, optional
-        The greatest number of entries in a partition's history, and of rows in a partition. A full history is emptied.
+        The greatest number of entries in a partition's history, and of rows in a partition. A full history is emptied;
+        by default it has no limit.
     program : str, optional
         The path of the program crackd.
 

@@ -6,14 +6,14 @@ from bisect import bisect_right
 from functools import partial
 from typing import Any, Callable, Optional, Sequence
 
-from .arrays import Given, items_of, np, whole
+from .arrays import Given, items_of, np, whole, whole_or_none
 from .base import MOST_PARTS, POLICIES, POLICY, SHIFT
 from .decimals import PayloadType, Scaled, decimals_of
 from .errors import Error, Refused, nothing_done, refused
 from .gaps import taking_gaps
 from .keys import keys_for
 from .library import library
-from .local import HISTORY, MOST_CELLS, LocalShard
+from .local import MOST_CELLS, LocalShard
 from .makers import TableHere
 from .placed import Placed, PlacedInShards, PlacedInTurn, Taken, rows_of, telling
 from .pool import processors, run_in_turn, run_side_by_side
@@ -45,8 +45,7 @@ ALONE += ["delete_many", "update_many", "count_many", "sum_many"]
 class Table(TableHere, Sharded):
     """A table in this process.
 
-    A full history is emptied automatically. Calls that may take long release the interpreter's lock, so that other
-    threads keep running.
+    Calls that may take long release the interpreter's lock, so that other threads keep running.
 
     Attributes
     ----------
@@ -82,7 +81,7 @@ class Table(TableHere, Sharded):
         partitions: Optional[int] = None,
         splits: Optional[Sequence[Any]] = None,
         policy: str = POLICY,
-        history: int = HISTORY,
+        history: Optional[int] = None,
         cells: int = MOST_CELLS,
     ):
         """Creates an empty table.
@@ -114,7 +113,8 @@ class Table(TableHere, Sharded):
         policy : str, optional
             How queries merge pending rows: "auto", "complete", "gradual" or "ripple".
         history : int, optional
-            The number of commands after which a partition's history is emptied.
+            The number of commands after which a partition's history is emptied, 1 to 1,000,000. By default a history
+            has no limit; the table stores none.
         cells : int, optional
             The greatest number of rows in a partition.
         """
@@ -126,7 +126,7 @@ class Table(TableHere, Sharded):
         has_ends = len(sample) > 0 or splits is not None
         count = self._shards_for(len(sample) if rows is None else rows, shards, has_ends or partitions == 1)
         cuts = splits_of(self._keys, sample, rows, partitions, splits, shards, count)
-        options = {"policy": policy, "history": whole(history, "history"), "cells": whole(cells, "cells")}
+        options = {"policy": policy, "history": whole_or_none(history, "history"), "cells": whole(cells, "cells")}
         self._open(cuts, min(count, len(cuts) + 1), options)
 
     @staticmethod

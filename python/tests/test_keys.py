@@ -338,9 +338,10 @@ class Options(unittest.TestCase):
 
     @wants_library
     def test_limits_of_a_table(self):
-        for value in (1.5, "5", True, None, b"5"):
+        for value in (1.5, "5", True, b"5"):
             self.assertRaisesRegex(TypeError, "history must be an integer", crackd.Table, history=value)
             self.assertRaisesRegex(TypeError, "cells must be an integer", crackd.Table, cells=value)
+        self.assertRaisesRegex(TypeError, "cells must be an integer", crackd.Table, cells=None)
         for value in (1.5, True, "5"):
             self.assertRaisesRegex(TypeError, "partitions must be an integer", crackd.Table, [1, 2], partitions=value)
         crackd.Table(history=100, cells=100).close()

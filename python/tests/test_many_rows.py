@@ -1,10 +1,12 @@
-"""More rows than a partition of the program has by default, in one partition of the library."""
+"""More rows, and more commands, than a partition once had by default, in one partition."""
 
 import unittest
 
-from ways import crackd, np, wants_library, wants_numpy
+from ways import crackd, np, wants_library, wants_numpy, wants_program
 
 ROWS = 3_000_000
+# one more than the greatest limit of a history
+COMMANDS = 1_000_001
 
 
 @wants_library
@@ -26,6 +28,18 @@ class ManyRows(unittest.TestCase):
         with crackd.Table(cells=16_777_215) as table:
             self.assertEqual(table.count(), 0)
         self.assertRaises(crackd.Refused, crackd.Table, cells=16_777_216)
+
+    def test_a_history_has_no_limit_by_default(self):
+        for options, since in [({}, COMMANDS), ({"history": None}, COMMANDS), ({"history": COMMANDS - 1}, 1)]:
+            with self.subTest(options), crackd.Table(**options) as table:
+                table.insert_many(np.arange(COMMANDS), np.arange(COMMANDS))
+                self.assertEqual((table.checkpoint(), table.count()), (since, COMMANDS))
+
+    @wants_program
+    def test_a_history_of_a_server_has_no_limit_by_default(self):
+        with crackd.serve(workers=1) as served, served.connect() as table:
+            table.insert_many(np.arange(COMMANDS), np.arange(COMMANDS))
+            self.assertEqual((table.checkpoint(), table.count()), (COMMANDS, COMMANDS))
 
 
 if __name__ == "__main__":

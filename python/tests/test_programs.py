@@ -193,7 +193,7 @@ class Openings(unittest.TestCase):
 
     def test_limits_that_are_out_of_range(self):
         for name, most in [("history", 10**6), ("cells", 2**24 - 1)]:
-            for limit in (0, -1, most + 1, 2**64, 2**64 + 5, -(2**64) + 5):
+            for limit in (0, -1, most + 1, 2**64 - 1, 2**64, 2**64 + 5, -(2**64) + 5):
                 with self.subTest(name, limit=limit):
                     self.assertRaises(crackd.BadLimit, crackd.Table, **{name: limit})
                     # a server's program refuses a limit that it can't read without giving the number of a refusal

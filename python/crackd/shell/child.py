@@ -122,7 +122,9 @@ class Server:
         """The last line that the program wrote to standard error, in words, or else how the program ended."""
         status = self.process.returncode
         if complaint:
-            return in_words(complaint.splitlines()[-1].replace("crackd: ", "", 1))
+            line = complaint.splitlines()[-1].replace("crackd: ", "", 1)
+            # the shell has longer words for a refusal than the program
+            return in_words(line.partition(": ")[0] if line.startswith("refused ") else line)
         return (
             f"{self.program} was ended by signal {-status}"
             if status < 0
