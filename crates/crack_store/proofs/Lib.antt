@@ -2,6 +2,7 @@ mod BlockLemmas
 mod ClosingLemmas
 mod SplitLaws
 mod ClosedLaws
+mod OpeningLemmas
 mod NextLemmas
 mod EdgeLemmas
 mod InsertLemmas

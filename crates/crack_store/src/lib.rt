@@ -22,6 +22,7 @@ mod inside;
 pub mod live;
 mod notes;
 pub mod onward;
+mod opening;
 pub mod points;
 pub mod ranges;
 pub mod reads;
