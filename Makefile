@@ -28,11 +28,9 @@ run:
 	@python3 tools/build.py run script
 
 test:
-	@python3 tools/build.py program library
 	@python3 tools/tests.py
 
 test-all:
-	@python3 tools/build.py program library
 	@python3 tools/tests.py --all
 
 prove:

@@ -30,17 +30,18 @@ class Versions(fixtures.Case):
         if path == out / "crackd-unproved":
             self.assertIsNotNone(found[1])
 
-    def test_library_and_package_say_the_same_as_a_program_of_their_kind(self) -> None:
+    def test_library_and_package_have_the_version_of_the_program(self) -> None:
         name = "libcrackd-unproved.so" if self.program.endswith("-unproved") else "libcrackd.so"
         path = PACKAGE / "crackd" / name
         if not path.exists():
             self.skipTest(f"{name} isn't built")
         os.environ["CRACKD_LIBRARY"] = str(path)
         self.addCleanup(os.environ.pop, "CRACKD_LIBRARY")
-        wanted = said(self.program, "--version")
-        self.assertEqual(said(sys.executable, "-m", "crackd", "--version"), wanted)
-        code = "from crackd import library; print(library.version())"
-        self.assertEqual(said(sys.executable, "-c", code), wanted)
+        of_library = said(sys.executable, "-c", "from crackd import library; print(library.version())")
+        self.assertRegex(of_library, f"^{FORM}\n$")
+        self.assertEqual(said(sys.executable, "-m", "crackd", "--version"), of_library)
+        # (what it ends with is another if only one of them uses a crate that changed)
+        self.assertEqual(of_library.split()[:2], said(self.program, "--version").split()[:2])
 
     def test_the_first_line_of_a_shell_has_it(self) -> None:
         version = said(self.program, "--version").rstrip()

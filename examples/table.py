@@ -1,7 +1,7 @@
 #!/usr/bin/env python3
 """A table in the process: table.py ROWS
 
-It needs libcrackd.so, which `make lib` builds. Row i has key i and payload 2i.
+It needs libcrackd.so, which `make lib-unproved` compiles and `make lib` proves. Row i has key i and payload 2i.
 """
 
 import argparse

@@ -130,7 +130,8 @@ def prove_names(names):
     if all(map(is_current, wanted)):
         return True
     tell = lambda text: print(text, end="", file=sys.stderr, flush=True)
-    is_well, lines = prove(wanted, tell, lambda line: tell(line) if line.startswith("rt: ") else None)
+    is_news = lambda line: line.startswith("rt: ") and " is kept: " not in line
+    is_well, lines = prove(wanted, tell, lambda line: tell(line) if is_news(line) else None)
     if not is_well:
         tell("".join(it for it in lines[-80:] if not it.startswith(graph.NOISE)))
     return is_well
