@@ -461,12 +461,7 @@ fn number_of(matches: &ArgMatches<'_>, name: &'static str) -> Result<u64, Argume
 }
 
 /// The number `given` for an option. An error unless it is between `least` and `most`.
-fn within(
-    option: &'static str,
-    least: u64,
-    most: u64,
-    given: u64,
-) -> Result<u64, ArgumentsError>
+fn within(option: &'static str, least: u64, most: u64, given: u64) -> Result<u64, ArgumentsError>
     ensures { IfOk result (λ number. (number ≡ given) × (least ≤ number) × (number ≤ most)) }
 {
     if least <= given && given <= most {

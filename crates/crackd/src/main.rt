@@ -354,7 +354,9 @@ impl<'a, R: Wait> Console<'a, R> {
         let takes = takes_line(STDERR_FILENO, millis);
         if takes {
             let time = self.time();
-            let _ = eprintln!(self.rt; "{time} crackd: log lines that were dropped: {dropped}: the reader had stopped");
+            let _ = eprintln!(self.rt;
+                "{time} crackd: log lines that were dropped: {dropped}: the reader had stopped"
+            );
         }
         takes
     }
