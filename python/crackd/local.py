@@ -21,12 +21,15 @@ from .typed import RowNumbers
 
 MOST_CELLS = 16_777_215
 MOST_LIFE = 1 << 40
-# A single call holds the interpreter's lock if it reads or moves at most this many rows. Then it takes about 4 ms at
-# most, and the interpreter itself lets a thread run for 5 ms. Releasing the lock and getting it back takes longer than
-# to answer such a call.
-SHORT_ROWS = 200_000
-# after this many changed rows and single calls, `_look` finds again how many rows a call may read
-LOOK = 5000
+# A single call holds the interpreter's lock unless it may take more nanoseconds than this. Releasing the lock and
+# getting it back takes longer than to answer most calls.
+SHORT = 1_000_000
+# At most how many nanoseconds a query takes for each row of the column, which it may crack, for each piece, for each
+# pending row, and for each piece past which a pending row is moved. They are measured, and rounded up.
+OF_A_ROW, OF_A_PIECE, OF_A_PENDING, OF_A_MOVE = 25, 200, 400, 50
+# Layouts aren't looked at again before so many calls and changed rows, or one for each two pieces if these are more.
+# Then the looks cost less than the calls.
+LOOK = 50
 # before a single call waits for the shard's lock, it checks `LOOKS` times whether another thread's call has ended, and
 # sleeps for `PAUSE` seconds before each check
 LOOKS, PAUSE = 100, 50e-6
@@ -70,9 +73,9 @@ class LocalShard:
         self._check(self._run(self._library.open, from_ints("Q", cuts, "splits"), *limits))
         # about how many rows the shard has
         self.held = 0
-        # A call is short if it meets at most `_short_parts` partitions. All calls are short for `_left` more changes.
-        # If that is 0, `_look` finds these numbers again after `_until_look` more changes and calls.
-        self._left, self._until_look, self._short_parts = LOOK, 0, self.partitions
+        # all calls are short for `_left` more calls and changed rows
+        self._left = 0
+        self._note_bounds(0, 1, 0, self.partitions)
         # where the library writes the rows that single deletes remove
         self._removed: Any = byref(c_uint64()), byref(c_int64())
         # an object that identifies the single call that holds the shard's lock or waits for it, or None
@@ -83,34 +86,54 @@ class LocalShard:
         """Whether this thread is already in a call of the shard, which a signal handler has interrupted."""
         return bool(self._lock._is_owned())
 
-    def _is_short(self, first: int = 0, last: int = 0) -> bool:
-        """Whether a single call for a range of keys, or for one row, may hold the interpreter's lock.
+    def _is_short(self, first: int, last: int) -> bool:
+        """Whether a query of a range of keys may hold the interpreter's lock."""
+        parts = bisect_right(self.cuts, last) - bisect_right(self.cuts, first) + 1
+        if self._most_time(parts, self._begun - self._left, self._changes) <= SHORT:
+            return True
+        return self._look() and self._most_time(parts, 0, 0) <= SHORT
 
-        If all calls may, sets `_left` to the number of changes for which this surely holds.
-        """
-        self._until_look -= 1
-        if self._until_look < 0:
-            self._look()
-        most = self._short_parts
-        return self.partitions <= most or bisect_right(self.cuts, last) - bisect_right(self.cuts, first) < most
+    def _is_short_change(self) -> bool:
+        """Whether a change of one row may hold the lock. It takes long only if the partition's cells are copied."""
+        if OF_A_ROW * (self._column + self._changes) <= SHORT:
+            return True
+        return self._look() and OF_A_ROW * self._column <= SHORT
 
-    def _look(self) -> None:
-        """Finds how many partitions a short call may meet, so that it reads few rows even after `LOOK` more changes."""
-        self._left, self._short_parts = 0, 0
+    def _look(self) -> bool:
+        """Notes the numbers of the layouts, unless that was done a short while ago. Returns whether it has."""
+        if self._begun - self._left < self._until_look:
+            return False
         try:
             found = self._totals()
         except Error:
             # the call that follows raises the error
-            return
-        pending = sum(it.pending_in + it.pending_out for it in found)
-        # a change adds at most one row to a partition, and two pending rows
-        self._short_parts = (SHORT_ROWS - pending - 3 * LOOK) // max(1, *(it.column for it in found))
-        self._left, self._until_look = (LOOK, 0) if self.partitions <= self._short_parts else (0, LOOK)
+            return False
+        pieces, pending = [it.pieces for it in found], sum(it.pending_in + it.pending_out for it in found)
+        self._note_bounds(max(it.column for it in found), max(pieces), pending, sum(pieces))
+        return True
+
+    def _note_bounds(self, column: int, pieces: int, pending: int, all_pieces: int) -> None:
+        """Notes what the partitions have now: at most so many rows and pieces in each, and pending rows in all."""
+        self._column, self._pieces, self._pending, self._changes = column, pieces, pending, 0
+        self._until_look = max(LOOK, self.partitions + all_pieces // 2)
+        left = self._until_look
+        while left and self._most_time(self.partitions, left, left) > SHORT:
+            left //= 2
+        # `_begun - _left` is the number of calls and changed rows since now, of which `_changes` are the latter
+        self._begun = self._left = left
+
+    def _most_time(self, parts: int, calls: int, changes: int) -> int:
+        """At most how many nanoseconds a query takes that meets so many partitions, after these calls and changes."""
+        # a change adds at most one row to a column, and two pending rows; a query cuts two pieces, and none without rows
+        column = self._column + changes
+        pieces = min(self._pieces + 2 * calls, column + 1)
+        pending = self._pending + 2 * changes
+        return parts * (OF_A_ROW * column + OF_A_PIECE * pieces) + pending * (OF_A_PENDING + OF_A_MOVE * pieces)
 
     def _changed(self, count: int) -> None:
         """Notes how many rows were changed."""
         self._left -= count
-        self._until_look -= count
+        self._changes += count
 
     def _give_way(self) -> None:
         """Waits for the end of another thread's single call, if that ends soon.
@@ -169,11 +192,13 @@ class LocalShard:
         try:
             self._asking = part
             with self._lock:
-                call = self._library.insert if self._left > 0 or self._is_short() else self._library.long_insert
+                is_short = self._left > 0 or self._is_short_change()
+                call = self._library.insert if is_short else self._library.long_insert
                 code = call(self._ref, key, payload, byref(part), byref(serial))
         finally:
             self.held += part.value != NOWHERE
             self._left -= 1
+            self._changes += 1
             if self._asking is part:
                 self._asking = None
         if code:
@@ -187,11 +212,13 @@ class LocalShard:
         try:
             self._asking = placed
             with self._lock:
-                call = self._library.insert if self._left > 0 or self._is_short() else self._library.long_insert
+                is_short = self._left > 0 or self._is_short_change()
+                call = self._library.insert if is_short else self._library.long_insert
                 code = call(self._ref, key, payload, *placed.at())
         finally:
             self.held += placed.part.value != NOWHERE
             self._left -= 1
+            self._changes += 1
             if self._asking is placed:
                 self._asking = None
         if code:
@@ -205,11 +232,13 @@ class LocalShard:
         try:
             self._asking = gone
             with self._lock:
-                call = self._library.delete if self._left > 0 or self._is_short() else self._library.long_delete
+                is_short = self._left > 0 or self._is_short_change()
+                call = self._library.delete if is_short else self._library.long_delete
                 code = call(self._ref, row >> SHIFT, row & SERIAL, byref(gone), *self._removed)
         finally:
             self.held -= gone.value
             self._left -= 1
+            self._changes += 1
             if self._asking is gone:
                 self._asking = None
         if code:
@@ -229,11 +258,13 @@ class LocalShard:
         try:
             self._asking = taken
             with self._lock:
-                call = self._library.delete if self._left > 0 or self._is_short() else self._library.long_delete
+                is_short = self._left > 0 or self._is_short_change()
+                call = self._library.delete if is_short else self._library.long_delete
                 code = call(self._ref, row >> SHIFT, row & SERIAL, *taken.at())
         finally:
             self.held -= taken.gone.value
             self._left -= 1
+            self._changes += 1
             if self._asking is taken:
                 self._asking = None
         if code:
@@ -251,10 +282,12 @@ class LocalShard:
         try:
             self._asking = found
             with self._lock:
-                call = self._library.update if self._left > 0 or self._is_short() else self._library.long_update
+                is_short = self._left > 0 or self._is_short_change()
+                call = self._library.update if is_short else self._library.long_update
                 code = call(self._ref, row >> SHIFT, row & SERIAL, key, payload, byref(found))
         finally:
             self._left -= 1
+            self._changes += 1
             if self._asking is found:
                 self._asking = None
         if code:
@@ -338,6 +371,7 @@ class LocalShard:
                 call = self._library.count if is_short else self._library.long_count
                 code = call(self._ref, self._policy, first, last, byref(count))
         finally:
+            self._left -= 1
             if self._asking is count:
                 self._asking = None
         if code:
@@ -356,6 +390,7 @@ class LocalShard:
                 call = self._library.sum if is_short else self._library.long_sum
                 code = call(self._ref, self._policy, first, last, byref(low), byref(high))
         finally:
+            self._left -= 1
             if self._asking is low:
                 self._asking = None
         if code:
@@ -378,6 +413,7 @@ class LocalShard:
         if whole is not None:
             firsts, lasts = _picked("Q", firsts, whole), _picked("Q", lasts, whole)
         answers = [empty(code, len(firsts)) for code in codes]
+        self._left -= len(firsts)
         code = self._run(call, self._policy, firsts, lasts, *answers, byref(done))
         if whole is not None and done.value < len(whole):
             # empty ranges before the refused one count as done

@@ -1,4 +1,4 @@
-"""Which single calls hold the interpreter's lock, by the rows that they may read, and what threads gain by it."""
+"""Which single calls hold the interpreter's lock, by the time that they may take, and what threads gain by it."""
 
 import _ctypes
 import contextlib
@@ -28,9 +28,18 @@ def noting(note):
 
 @contextlib.contextmanager
 def few(rows=ROWS, look=LOOK):
-    """Lets a short call read so many rows, and looks for them so often."""
-    with mock.patch.multiple(local, SHORT_ROWS=rows, LOOK=look):
+    """Lets a short call read so many rows and pending rows, whatever the pieces are, and looks for them so often."""
+    free = dict.fromkeys(("OF_A_PIECE", "OF_A_MOVE"), 0)
+    with mock.patch.multiple(local, SHORT=rows, LOOK=look, OF_A_ROW=1, OF_A_PENDING=1, **free):
         yield
+
+
+def time_of(shard, first, last):
+    """At most how many nanoseconds a query takes by what the partitions have that it meets."""
+    ends = [0, *shard.cuts, 2**64]
+    found = [it for it, low, high in zip(shard._totals(), ends, ends[1:]) if first < high and low <= last]
+    pending = [it.pending_in + it.pending_out for it in found]
+    return sum(25 * it.column + 200 * it.pieces + of * (400 + 50 * it.pieces) for it, of in zip(found, pending))
 
 
 def rows_met(table, first, last):
@@ -64,7 +73,7 @@ class Which(InProcess, unittest.TestCase):
     def test_ranges_of_few_and_of_many_partitions(self):
         # four partitions of 300 rows, of which a call may meet three
         names = []
-        with few(930 + 3 * LOOK), crackd.Table(splits=[300, 600, 900], shards=1, key_type="uint64") as table:
+        with few(930), crackd.Table(splits=[300, 600, 900], shards=1, key_type="uint64") as table:
             rows = table.insert_many(range(1200), range(1200))
             table.settle()
             with noting(lambda name, _: names.append(name)):
@@ -91,11 +100,12 @@ class Which(InProcess, unittest.TestCase):
         names = []
         with few(), self.table() as table:
             rows = table.insert_many(range(1200), [1] * 1200)
+            table.settle()
             with noting(lambda name, _: names.append(name)):
-                table.settle(), table.update(rows[0], 1, 1), table.delete(rows[1]), table.insert(5, 5)
+                table.update(rows[0], 1, 1), table.delete(rows[1]), table.insert(5, 5)
                 self.assertEqual((table.count(), table.sum()), (1200, 1204))
                 table.move(rows[2], 9)
-            wanted = ["count", "update", "delete", "insert", "count", "sum", "delete", "insert"]
+            wanted = ["update", "delete", "insert", "count", "sum", "delete", "insert"]
             self.assertEqual(names, [LONG + it for it in wanted])
             names.clear()
             self.assertTrue(all(table.delete_many(rows[100:])))
@@ -118,6 +128,69 @@ class Which(InProcess, unittest.TestCase):
                 table.settle()
                 self.assertEqual(table.sum(), 1200)
             self.assertEqual(names, ["count", "long_sum", "long_count", "sum"])
+
+    def test_what_a_query_may_take(self):
+        """Rows, pieces and pending rows count, each by itself and together."""
+        for rows, pieces, pending, is_short in [
+            (30_000, 0, 0, True),
+            (45_000, 0, 0, False),
+            (20_000, 2000, 0, True),
+            (20_000, 3200, 0, False),
+            (1000, 0, 1500, True),
+            (1000, 0, 2600, False),
+            (20_000, 500, 10, True),
+            (20_000, 500, 40, False),
+            (2000, 1000, 5, True),
+            (2000, 1000, 30, False),
+        ]:
+            with self.subTest(rows=rows, pieces=pieces, pending=pending), self.table() as table:
+                table.insert_many(range(rows), [1] * rows)
+                table.settle()
+                step = rows // (pieces // 2) if pieces else rows
+                table.count_many(range(0, rows, step), range(1, rows + 1, step))
+                table.insert_many(range(pending), [1] * pending)
+                (part,) = table._shards[0]._totals()
+                self.assertEqual((part.column, part.pending_in), (rows, pending))
+                self.assertTrue(pieces <= part.pieces <= pieces * 1.05 + 4, part.pieces)
+                names = []
+                with noting(lambda name, _: names.append(name)):
+                    self.assertEqual(table.count(5, 6), 1 + (pending > 5))
+                self.assertEqual(names, ["count" if is_short else "long_count"])
+
+    def test_random_calls_take_no_longer(self):
+        """A query that holds the lock takes at most a millisecond by what the partitions have before it."""
+        for seed in range(3):
+            told, drawn = {True: 0, False: 0}, random.Random(seed)
+            with crackd.Table(splits=range(2000, 10_000, 2000), shards=1, key_type="uint64") as table:
+                (shard,), rows = table._shards, []
+
+                def note(name, words):
+                    if name.endswith(("count", "sum")):
+                        told[name in library.SINGLE] += 1
+                        if name in library.SINGLE:
+                            self.assertLessEqual(time_of(shard, *words[2:4]), 1_000_000)
+
+                def key():
+                    return drawn.randrange(10_000)
+
+                def some(size):
+                    return table.insert_many([key() for _ in range(size)], range(size))
+
+                def ranges(size):
+                    lows = [key() for _ in range(size)]
+                    table.count_many(lows, [it + 1 for it in lows])
+
+                for _ in range(400):
+                    low = key()
+                    calls = [lambda: table.count(low, low + 10), lambda: table.sum(low, low + 3000)] * 3
+                    calls += [lambda: rows.append(table.insert(low, 1)), lambda: rows and table.delete(rows.pop())] * 2
+                    calls += [lambda: rows and table.update(rows[0], low // 2000 * 2000, 1)]
+                    calls.append(lambda: rows.extend(map(int, some(drawn.randrange(1, 200)))))
+                    calls.append(lambda: ranges(drawn.randrange(1, 100)))
+                    calls.append(lambda: drawn.random() < 0.2 and table.settle())
+                    with noting(note), contextlib.suppress(crackd.WrongPartition):
+                        drawn.choice(calls)()
+            self.assertGreater(min(told.values()), 20)
 
     def test_random_calls_read_no_more_rows(self):
         for seed in range(3):
@@ -152,15 +225,16 @@ class Which(InProcess, unittest.TestCase):
 
     def test_a_look_that_is_refused(self):
         names = []
-        with few(look=2), self.table() as table:
-            table.insert_many([1, 2, 3], [1, 1, 1])
+        with few(20, look=2), self.table() as table:
+            # only a look shows that none of these rows is pending
+            table.delete_many(table.insert_many(range(40), [1] * 40))
             for code, wanted in [(8, "long_count"), (0, "count")]:
                 names.clear()
                 refused = {"layout": lambda real, *words, code=code: code or real(*words)}
                 with noting(lambda name, _: names.append(name)), standing_in(**refused):
-                    self.assertEqual(table.count(), 3)
+                    self.assertEqual(table.count(), 0)
                 self.assertEqual(names, [wanted])
-            table.insert_many([1, 2, 3], [1, 1, 1])
+            table.insert_many(range(40), [1] * 40)
             table.close()
             self.assertRaises(crackd.Closed, table.count)
             self.assertRaises(crackd.Closed, table.insert, 1, 1)
