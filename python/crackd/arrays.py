@@ -88,6 +88,11 @@ def items_of(it: Any, what: str) -> Any:
     return found.tolist() if found.dtype == object else found
 
 
+def sized(it: Any) -> Any:
+    """Items that have a length: those of a generator or another iterator as a list, and all others as they are."""
+    return it if hasattr(it, "__len__") else list(it)
+
+
 def types_of(items: Any) -> set[type]:
     """The types of the items of a list."""
     return {int} if isinstance(items, range) and items else set(map(type, items))

@@ -128,11 +128,15 @@ class Column:
         self.place = place_of(names, wanted)
         own = schemas[self.place]
         self.name, form = names[self.place] or self.place, text_of(own.format)
+        # the items of a column of categories are the places of their values in a dictionary
+        self.places = NUMBERS.get(form) if own.dictionary else None
+        if self.places is not None:
+            form = text_of(own.dictionary.contents.format)
         self.dtype, self.unit, self.zone = NUMBERS.get(form), None, None
         if self.dtype is None:
             self.dtype, self.unit = DATES.get(form.partition(":")[0], (None, None))
             self.zone = zone_name(form.partition(":")[2] or None) if self.dtype is not None else None
-        if self.dtype is None or own.dictionary:
+        if self.dtype is None or own.dictionary and np.dtype(self.places).kind not in "iu":
             raise TypeError(f"column {self.name!r} has the Arrow type {form!r}, which is no number and no date")
 
     def whole(self, parts: Sequence[Any]) -> Any:
@@ -158,10 +162,24 @@ class Column:
             self.check_whole(own, offset - own.offset, batch.length, before)
         if not batch.length:
             return self.empty()
-        size = np.dtype(self.dtype).itemsize
-        text = ctypes.string_at(own.buffers[1] + offset * size, batch.length * size)
-        items = self.typed(np.frombuffer(text, self.dtype))
-        return np.ma.masked_array(items, self.all_gaps(batch, own, offset)) if self.has_gaps else items
+        gaps = self.all_gaps(batch, own, offset) if self.has_gaps else None
+        if self.places is None:
+            items = buffer_of(own, offset, batch.length, self.dtype)
+        else:
+            items = self.values(own, offset, batch.length, before, gaps)
+        return self.typed(items) if gaps is None else np.ma.masked_array(self.typed(items), gaps)
+
+    def values(self, own: Array, offset: int, length: int, before: int, gaps: Any) -> Any:
+        """The values of a column of categories. Where `gaps` says that an item is missing, its value is any."""
+        values = own.dictionary.contents
+        self.check_whole(values, 0, values.length, before)
+        found = buffer_of(values, values.offset, values.length, self.dtype)
+        places = buffer_of(own, offset, length, self.places)
+        if gaps is None or not gaps.any():
+            return found[places]
+        items = np.zeros(length, self.dtype)
+        items[~gaps] = found[places[~gaps]]
+        return items
 
     def all_gaps(self, batch: Array, own: Array, offset: int) -> Any:
         """Which of the column's items in a batch are missing, or are in a row that is missing."""
@@ -182,6 +200,14 @@ class Column:
         first = own.offset + more
         bits = np.frombuffer(ctypes.string_at(valid, (first + length + 7) // 8), np.uint8)
         return np.unpackbits(bits, bitorder="little")[first : first + length] == 0
+
+
+def buffer_of(own: Array, offset: int, length: int, dtype: str) -> Any:
+    """A copy of the items of an array from its offset on."""
+    size = np.dtype(dtype).itemsize
+    if not length:
+        return np.empty(0, dtype)
+    return np.frombuffer(ctypes.string_at(own.buffers[1] + offset * size, length * size), dtype)
 
 
 def text_of(text: Optional[bytes]) -> str:

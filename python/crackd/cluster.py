@@ -10,7 +10,7 @@ from __future__ import annotations
 import threading
 from typing import Any, Callable, Iterator, Optional, Sequence
 
-from .arrays import TOP, np, whole, whole_or_none
+from .arrays import TOP, np, sized, whole, whole_or_none
 from .base import POLICIES, POLICY, parts_for
 from .errors import Closed, Error, ShardLost
 from .decimals import PayloadType
@@ -92,6 +92,7 @@ class Table(Sharded):
         key_type, key_decimals, zone, **options
             These, and `payload_decimals`, `policy`, `history` and `cells` are those of `crackd.Table`.
         """
+        sample, splits = sized(sample), None if splits is None else sized(splits)
         kind, sample = keys_for(sample, key_type, key_decimals, zone)
         numbers = np.sort(kind.many(sample)) if len(sample) else np.empty(0, np.uint64)
         cuts = None if splits is None else checked_splits(kind.many(splits))
@@ -404,7 +405,9 @@ class Table(Sharded):
         if not (hasattr(type(frame), "to_delayed") and (is_frame or hasattr(type(frame), "dtype"))):
             raise TypeError(f"from_dask takes a Dask dataframe or array, not one of type {type(frame).__name__}")
         check_client(client)
-        kind = Keys.of_dtype(frame[key].dtype if is_frame else frame.dtype)
+        dtype = frame[key].dtype if is_frame else frame.dtype
+        # the type of a column of categories is that of its values
+        kind = Keys.of_dtype(getattr(getattr(dtype, "categories", None), "dtype", dtype))
         if key_decimals is not None:
             kind = (Keys("i") if kind.kind == "f" else kind).with_decimals(key_decimals)
         types = kind, PayloadType(payload_decimals)

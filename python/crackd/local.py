@@ -124,7 +124,7 @@ class LocalShard:
 
     def _most_time(self, parts: int, calls: int, changes: int) -> int:
         """At most how many nanoseconds a query takes that meets so many partitions, after these calls and changes."""
-        # a change adds at most one row to a column, and two pending rows; a query cuts two pieces, and none without rows
+        # a change adds at most a row to a column, and two pending rows; a query cuts two pieces, and none without rows
         column = self._column + changes
         pieces = min(self._pieces + 2 * calls, column + 1)
         pending = self._pending + 2 * changes

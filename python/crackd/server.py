@@ -12,7 +12,7 @@ import sys
 import tempfile
 from typing import IO, Any, AnyStr, Optional, Sequence
 
-from .arrays import whole
+from .arrays import sized, whole
 from .base import MOST_PARTS, POLICIES, POLICY, parts_for
 from .client import Client, connect
 from .decimals import INTEGERS, PayloadType
@@ -270,6 +270,7 @@ def serve(
     """
     if policy not in POLICIES:
         raise ValueError(f"policy must be one of {', '.join(POLICIES)}, not {policy}")
+    sample, splits = sized(sample), None if splits is None else sized(splits)
     kind, sample = keys_for(sample, key_type, key_decimals, zone)
     payloads = PayloadType(payload_decimals)
     cuts = splits_of(kind, sample, rows, partitions, splits)

@@ -6,7 +6,7 @@ from bisect import bisect_right
 from functools import partial
 from typing import Any, Callable, Optional, Sequence
 
-from .arrays import Given, items_of, np, whole, whole_or_none
+from .arrays import Given, items_of, np, sized, whole, whole_or_none
 from .base import MOST_PARTS, POLICIES, POLICY, SHIFT
 from .decimals import PayloadType, Scaled, decimals_of
 from .errors import Error, Refused, nothing_done, refused
@@ -121,6 +121,7 @@ class Table(TableHere, Sharded):
         if policy not in POLICIES:
             raise ValueError(f"policy must be one of {', '.join(POLICIES)}, not {policy}")
         library()
+        sample, splits = sized(sample), None if splits is None else sized(splits)
         self._keys, sample = keys_for(sample, key_type, key_decimals, zone)
         self._payloads, self._policy = PayloadType(payload_decimals), policy
         has_ends = len(sample) > 0 or splits is not None

@@ -178,7 +178,9 @@ class Streams(unittest.TestCase):
                 if dictionary:
                     schema.dictionary = ctypes.pointer(arrow.Schema(format=b"u"))
                 shown = repr("k" if name == b"k" else 0)
-                wanted = f"column {shown} has the Arrow type '{form.decode()}', which is no number"
+                # that of the values of a dictionary
+                shown_form = "u" if dictionary and form != b"tdD" else form.decode()
+                wanted = f"column {shown} has the Arrow type '{shown_form}', which is no number"
                 with self.assertRaises(TypeError) as caught:
                     arrow.Column(schema, 0)
                 self.assertTrue(str(caught.exception).startswith(wanted), caught.exception)

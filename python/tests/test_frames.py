@@ -224,19 +224,34 @@ class Data:
         return ctypes.cast(pointers, ctypes.POINTER(ctypes.POINTER(kind)))
 
     def schema(self, _, pointer):
-        found = [arrow.Schema(format=form.encode(), name=name.encode()) for name, (form, _) in self.columns.items()]
+        found = []
+        for name, (form, _) in self.columns.items():
+            # "c>l" is a dictionary of "l" whose places are "c"
+            form, _, values = form.partition(">")
+            found.append(arrow.Schema(format=form.encode(), name=name.encode()))
+            if values:
+                self.kept.append(arrow.Schema(format=values.encode()))
+                found[-1].dictionary = ctypes.pointer(self.kept[-1])
         made = pointer.contents
         ctypes.memset(pointer, 0, ctypes.sizeof(arrow.Schema))
         if self.is_struct:
             made.format, made.n_children, made.children = b"+s", len(found), self.children(arrow.Schema, found)
         else:
-            made.format = found[0].format
+            made.format, made.dictionary = found[0].format, found[0].dictionary
         made.release = self.releasing(arrow.Schema)
         self.alive += 1
         return 0
 
     def column(self, form, items):
         """An array of a column, whose items begin after some others."""
+        form, _, of_values = form.partition(">")
+        if of_values:
+            values, places = items
+            made, skipped = self.column(form, places), self.skipped
+            self.skipped = 0
+            self.kept.append(self.column(of_values, values))
+            made.dictionary, self.skipped = ctypes.pointer(self.kept[-1]), skipped
+            return made
         dtype = arrow.NUMBERS.get(form) or arrow.DATES.get(form.partition(":")[0], ("i8",))[0]
         there = [it is not None for it in items]
         before = self.offset + self.skipped
@@ -300,6 +315,28 @@ class OfArrow:
                     wanted = [(least, 5), (1, 6), (greatest, LEAST)]
                     self.assertEqual(self.filled(data, "k", "p", key_type=kind), wanted)
                     self.assertEqual(self.filled(data, 0, 1, key_type=kind), wanted)
+
+    def test_categories(self):
+        """Columns whose values are in a dictionary, of which each batch has its own."""
+        for offset, skipped in [(0, 0), (1, 0), (8, 3), (13, 1)]:
+            keys = [([30, -10, 20], [2, 0, 0]), ([], []), ([5], [0])]
+            payloads = [([1, 2, LEAST], [2, 0, 1]), ([7], []), ([9], [0])]
+            data = Data({"k": ("c>l", keys), "p": ("I>l", payloads)}, offset, skipped=skipped)
+            with self.subTest(offset=offset):
+                self.assertEqual(self.filled(data, "k", "p"), [(20, LEAST), (30, 1), (30, 2), (5, 9)])
+        data = Data({"k": ("s>g", [([0.5, -1.5], [1, 0, 1])])}, is_struct=False)
+        self.assertEqual(self.filled(data, key_type="float64"), [(-1.5, 0), (0.5, 1), (-1.5, 2)])
+        days = np.array([19_000, 0]).astype("datetime64[D]").tolist()
+        data = Data({"k": ("L>tdD", [([19_000, 0], [0, 1])])})
+        self.assertEqual(self.filled(data, key_type="datetime64[D]"), list(zip(days, range(2))))
+        with self.table() as table:
+            for column, error in [
+                (("c>l", [([1, None], [0, 0])]), ValueError),
+                (("c>l", [([1, 2], [0, None])]), ValueError),
+                (("g>l", [([1, 2], [0, 1])]), TypeError),
+            ]:
+                self.assertRaises(error, table.insert_frame, Data({"k": column}))
+            self.assertEqual(table.count(), 0)
 
     def test_floats(self):
         for form in "efg":

@@ -224,8 +224,11 @@ class Damages(InARoom):
     def test_no_damaged_file_loads(self):
         rng = self.seeded()
         wholes = []
+        patch = mock.patch.object(saved, "BYTES_AT_ONCE", 5000)
+        patch.start()
+        self.addCleanup(patch.stop)
         for key_type in self.TYPES:
-            for size in (0, 1, 60):
+            for size in (0, 1, 60, 1000):
                 keys = np.array([rng.randrange(1000) for _ in range(size)]).astype(key_type)
                 with crackd.Table.from_arrays(keys, [rng.randrange(-100, 100) for _ in keys]) as table:
                     table.save(self.path)
@@ -400,7 +403,8 @@ class OfTheShell(InARoom):
         command = [sys.executable, "-c", f"import sys; sys.path.insert(0, {str(PACKAGE)!r})\n"]
         command[-1] += "from crackd.__main__ import main\nsys.exit(main(sys.argv[1:]))"
         with open(out, "wb") as file:
-            words = {"input": lines.encode(), "stdout": file, "cwd": self.room, "timeout": 60}
+            environment = {name: it for name, it in os.environ.items() if name != "PYTHONUNBUFFERED"}
+            words = {"input": lines.encode(), "stdout": file, "cwd": self.room, "env": environment, "timeout": 60}
             subprocess.run([*command, "shell", "100"], check=True, **words)
         return pathlib.Path(out).read_text()
 
@@ -547,6 +551,25 @@ class Folders(InARoom):
 
         with mock.patch.object(folders.fcntl, "flock", slow), folders.reading(self.room) as manifest:
             self.assertEqual((manifest["files"], first[0] in self.names()), (wanted[0], False))
+
+    def test_a_save_that_ends_while_another_one_looks_for_those_that_run(self):
+        """The manifest that stands is then that of the other, which the first must not have read before."""
+        stack, is_running = contextlib.ExitStack(), folders._is_running
+        files = stack.enter_context(folders.saving(self.room, 2))
+        self.write(files, False)
+
+        def ended(folder, mark):
+            if mark in files[0] and "manifest.json" in self.names() and not done:
+                done.append(mark)
+                self.write(files)
+                stack.close()
+            return is_running(folder, mark)
+
+        done = []
+        with mock.patch.object(folders, "_is_running", ended):
+            self.save()
+        self.assertEqual(len(done), 1)
+        self.expect(*files)
 
     def test_without_locks_the_parts_of_others_stay(self):
         """Some file systems have no locks, so nobody knows whether a save still runs."""

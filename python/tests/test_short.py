@@ -157,6 +157,37 @@ class Which(InProcess, unittest.TestCase):
                     self.assertEqual(table.count(5, 6), 1 + (pending > 5))
                 self.assertEqual(names, ["count" if is_short else "long_count"])
 
+    def test_what_is_counted_between_two_looks(self):
+        """Calls for many, and single ones, add pieces and pending rows to what the last look has found."""
+        many = range(0, 19_000, 6)
+        changes = [
+            (lambda table, rows: table.count_many(many, [it + 1 for it in many]), False),
+            (lambda table, rows: table.sum_many(many, [it + 1 for it in many]), False),
+            (lambda table, rows: [table.count(it, it + 1) for it in range(0, 9000, 3)], False),
+            (lambda table, rows: [table.sum(it, it + 1) for it in range(0, 9000, 3)], False),
+            (lambda table, rows: table.insert_many(range(2000), range(2000)), False),
+            (lambda table, rows: table.delete_many(rows[:2000]), False),
+            (lambda table, rows: table.update_many(rows[:2000], range(2000), range(2000)), False),
+            (lambda table, rows: [table.insert(it, 1) for it in range(1000)], False),
+            (lambda table, rows: [table.delete(it) for it in rows[:1000]], False),
+            (lambda table, rows: [table.update(it, 1, 1) for it in rows[:1000]], False),
+            (lambda table, rows: [table.move(it, 1) for it in rows[:500]], False),
+            (lambda table, rows: [table.count(5, 6), table.insert(5, 6), table.delete(rows[0])], True),
+        ]
+        for at, (change, is_short) in enumerate(changes):
+            with self.subTest(at), mock.patch.object(local, "LOOK", 10**9), self.table() as table:
+                rows = table.insert_many(range(19_000), [1] * 19_000).tolist()
+                table.settle()
+                names = []
+                with noting(lambda name, _: names.append(name)):
+                    # after this nothing is looked at any more
+                    table.count(5, 6)
+                    self.assertEqual(names, ["count"])
+                    change(table, rows)
+                    names.clear()
+                    table.count(5, 6)
+                self.assertEqual(names, ["count" if is_short else "long_count"])
+
     def test_random_calls_take_no_longer(self):
         """A query that holds the lock takes at most a millisecond by what the partitions have before it."""
         for seed in range(3):

@@ -293,7 +293,9 @@ class Others(InARoom):
         code = f"{FOUND}import os\n"
         code += "def save(path, **options):\n    with whole_file(path, **options) as file: file.write(b'[rows]')\n"
         command = [sys.executable, "-c", code + lines]
-        return subprocess.run(command, check=True, timeout=60, cwd=self.room, **options)
+        # what isn't flushed is written late
+        environment = {name: it for name, it in os.environ.items() if name != "PYTHONUNBUFFERED"}
+        return subprocess.run(command, check=True, timeout=60, cwd=self.room, env=environment, **options)
 
     def test_standard_output_keeps_its_order(self):
         for path in ("/dev/stdout", "/dev/fd/1", "/proc/self/fd/1", "link", "out"):
