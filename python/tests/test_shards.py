@@ -165,16 +165,13 @@ class FirstErrors(unittest.TestCase):
             self.assertEqual((found is stop, found.answers), (True, "rows"))
         # a MemoryError that isn't the library's, in a shard that has done nothing
         found = crackd.routing.error_of({0: MemoryError("numpy's")}, shards, is_done, "rows")
+        done = int(np.argmin(is_done))
         self.assertIs(type(found), crackd.OutOfMemory)
-        self.assertEqual((found.done, found.later, found.answers), (int(np.argmin(is_done)), *later_of(is_done), "rows"))
+        self.assertEqual((found.done, found.later), (done, int(np.count_nonzero(is_done[done:]))))
+        self.assertEqual(found.answers, "rows")
         failed = crackd.shard.ShardFailed("a full disk")
         found = crackd.routing.error_of({0: failed}, shards, is_done, "rows")
         self.assertEqual((found is failed, found.answers), (True, "rows"))
-
-
-def later_of(is_done):
-    """How many items after the first that isn't done are done."""
-    return [int(np.count_nonzero(is_done[np.argmin(is_done) :]))]
 
 
 @wants_cluster
