@@ -165,6 +165,16 @@ class Control(Channel):
             self.socket.shutdown(socket.SHUT_WR)
 
 
+class Attending(Client):
+    """The supervisor's session, before or after those of clients."""
+
+    def __exit__(self, kind: Any, *_: Any) -> None:
+        if kind is not None and issubclass(kind, Stopped):
+            # the program may not answer any more
+            self._disconnect()
+        self.close()
+
+
 class Rows:
     """The rows of a file, which are read when this is made."""
 
@@ -190,29 +200,78 @@ def is_csv(path: str) -> bool:
     return path.endswith(".csv")
 
 
-def started(command: list[str], **pipes: Any) -> subprocess.Popen[bytes]:
-    """Starts the program, which doesn't heed the signals, and on Linux ends when this process does."""
-    parent, libc = os.getpid(), ctypes.CDLL(None) if sys.platform == "linux" else None
+class Run:
+    """A run of the program. `process` is that of the program, once it is started."""
 
-    def prepare() -> None:
-        for it in SIGNALS:
-            signal.signal(it, signal.SIG_IGN)
-        if libc is not None:
-            libc.prctl(PR_SET_PDEATHSIG, signal.SIGKILL)
-            if os.getppid() != parent:
-                os._exit(1)
+    def __init__(self, options: Options, program: str):
+        self.options, self.program = options, program
+        self.process: Optional[subprocess.Popen[bytes]] = None
+        self.is_killed = False
 
-    return subprocess.Popen(command, preexec_fn=prepare, **pipes)
+    def start_program(self, words: Sequence[str], **pipes: Any) -> None:
+        """Starts the program, which doesn't heed the signals, and on Linux ends when this process does."""
+        parent, libc = os.getpid(), ctypes.CDLL(None) if sys.platform == "linux" else None
+
+        def prepare() -> None:
+            for it in SIGNALS:
+                signal.signal(it, signal.SIG_IGN)
+            signal.pthread_sigmask(signal.SIG_UNBLOCK, SIGNALS)
+            if libc is not None:
+                libc.prctl(PR_SET_PDEATHSIG, signal.SIGKILL)
+                if os.getppid() != parent:
+                    os._exit(1)
+
+        command = [self.program, "serve", *self.options.words, *words]
+        # a signal that comes amid this is handled once the process is known, so that it can be killed
+        signal.pthread_sigmask(signal.SIG_BLOCK, SIGNALS)
+        try:
+            self.process = subprocess.Popen(command, preexec_fn=prepare, **pipes)
+        finally:
+            signal.pthread_sigmask(signal.SIG_UNBLOCK, SIGNALS)
+
+    def wait(self) -> int:
+        """Waits for the program. Returns its status as a shell gives it."""
+        assert self.process is not None
+        status = self.process.wait()
+        if status < 0 and not self.is_killed:
+            say(f"the program was ended by {signal.Signals(-status).name}")
+        return status if status >= 0 else 128 - status
+
+    def kill(self) -> None:
+        """Ends the program at once."""
+        self.is_killed = True
+        if self.process is not None:
+            self.process.kill()
+            self.process.wait()
 
 
-class Supervised:
+class Plain(Run):
+    """A server that neither loads nor saves: the program writes to this process's own output."""
+
+    def drain(self) -> None:
+        """Handles the first signal: the end of the program's input."""
+        if self.options.is_counted:
+            raise Stopped(NOT_DRAINED)
+        os.close(self.input)
+
+    def run(self) -> int:
+        """Serves until the end, and returns the exit status."""
+        read, self.input = os.pipe()
+        signals = Signals(self.drain)
+        self.start_program([], stdin=read)
+        os.close(read)
+        status = self.wait()
+        signals.is_over = True
+        return status
+
+
+class Supervised(Run):
     """A server that loads or saves. `status` is that of the run so far."""
 
     def __init__(self, options: Options, program: str):
-        self.options, self.program, self.status = options, program, 0
-        self.is_serving = self.is_drained = False
+        super().__init__(options, program)
+        self.status, self.is_serving, self.is_drained = 0, False, False
         self.kind, self.payload_type = Keys.named("uint64"), INTEGERS
-        self.process: Optional[subprocess.Popen[bytes]] = None
         self.signals = Signals(self.drain)
 
     def drain(self) -> None:
@@ -253,13 +312,12 @@ class Supervised:
         """Starts the program."""
         ours, theirs = socket.socketpair()
         self.control = Control(ours)
-        command = [self.program, "serve", *self.options.words, "--supervised", *map(str, splits)]
         with theirs:
-            self.process = started(command, stdin=theirs, stdout=theirs)
+            self.start_program(["--supervised", *map(str, splits)], stdin=theirs, stdout=theirs)
 
-    def session(self) -> Client:
-        """The supervisor's session, before or after those of clients."""
-        return Client(self.control, self.kind, POLICY, self.payload_type)
+    def session(self) -> Attending:
+        """A session of the supervisor."""
+        return Attending(self.control, self.kind, POLICY, self.payload_type)
 
     def before(self, rows: Optional[Rows]) -> None:
         """Loads the rows, and then lets the program open its port."""
@@ -301,7 +359,11 @@ class Supervised:
                 except ERRORS as error:
                     self.failed(f"{path} isn't saved", error)
         self.control.end()
-        pass_on(self.control.line())
+        line = self.control.line()
+        while not line.startswith("accepted "):
+            # what a save that failed hadn't read
+            line = self.control.line()
+        pass_on(line)
 
     def saved(self, table: Client, path: str) -> str:
         """Writes all rows to a file, which is replaced only when they are written. Returns what was done, in words."""
@@ -323,54 +385,14 @@ class Supervised:
         if not self.options.is_quiet:
             say(text, time.strftime("%Y-%m-%dT%H:%M:%SZ ", time.gmtime()))
 
-    def kill(self) -> None:
-        """Ends the program at once."""
-        if self.process is not None:
-            self.process.kill()
-            self.process.wait()
-
     def ended(self) -> int:
-        """Waits for the program. Returns its status, and 1 if it was killed or files weren't loaded or saved."""
-        assert self.process is not None
-        status = self.process.wait()
+        """Waits for the program. Returns its status, or 1 if a file wasn't loaded or saved."""
+        status = self.wait()
         if self.status:
             return self.status
         if status and self.is_serving and self.options.save:
             say(f"{self.options.save} isn't saved, since the program ended")
-        return status_of(status)
-
-
-def status_of(status: int) -> int:
-    """The exit status for that of the program, which is below 0 if a signal ended it."""
-    if status < 0:
-        say(f"the program was ended by {signal.Signals(-status).name}")
-    return status if status >= 0 else 128 - status
-
-
-def serve_plainly(options: Options, program: str) -> int:
-    """Serves without loading or saving: the program writes to this process's own output. Returns the exit status."""
-    read, write = os.pipe()
-    is_open = True
-
-    def drain() -> None:
-        nonlocal is_open
-        if options.is_counted:
-            raise Stopped(NOT_DRAINED)
-        if is_open:
-            is_open = False
-            os.close(write)
-
-    signals = Signals(drain)
-    process = started([program, "serve", *options.words], stdin=read)
-    os.close(read)
-    try:
-        status = process.wait()
-    except Stopped:
-        process.kill()
-        process.wait()
-        raise
-    signals.is_over = True
-    return status_of(status)
+        return status
 
 
 def main(words: list[str]) -> int:
@@ -385,20 +407,14 @@ def main(words: list[str]) -> int:
         status = subprocess.run([program, "serve", *options.words], check=False).returncode
         print(HELP, end="")
         return status
-    if not options.files:
-        run: Callable[[], int] = lambda: serve_plainly(options, program)
-        kill: Callable[[], None] = lambda: None
-    else:
-        folder = os.path.dirname(os.path.realpath(options.save or "."))
-        if not os.path.isdir(folder):
-            say(f"{options.save} can't be saved: there is no folder {folder}")
-            return 1
-        supervised = Supervised(options, program)
-        run, kill = supervised.run, supervised.kill
+    folder = os.path.dirname(os.path.realpath(options.save or "."))
+    if not os.path.isdir(folder):
+        say(f"{options.save} can't be saved: there is no folder {folder}")
+        return 1
+    served = Supervised(options, program) if options.files else Plain(options, program)
     try:
-        return run()
+        return served.run()
     except Stopped as it:
-        kill()
-        also = f"; {options.save} isn't saved" if options.save else ""
-        say(f"{it}{also}")
+        served.kill()
+        say(f"{it}; {options.save} isn't saved" if options.save else str(it))
         return 1

@@ -278,7 +278,7 @@ class Statements(InARoom):
         ]:
             heard, calm = [], Calm()
             channel = mock.Mock(line=lambda: "bye", send=heard.append)
-            with contextlib.redirect_stdout(io.StringIO()):
+            with contextlib.redirect_stdout(io.StringIO()), contextlib.redirect_stderr(io.StringIO()):
                 console.Shell(Session(channel, calm, "auto"), calm, False).obey(line.encode())
             self.assertEqual((line, heard), (line, [it.encode() + b"\n" for it in sent]))
 

@@ -15,9 +15,11 @@ import tempfile
 import threading
 import time
 import unittest
+from unittest import mock
 
 from ways import crackd, np, wants_numpy, wants_program
 
+from crackd import supervised
 from crackd.server import find_program, free_port
 
 SECONDS = 60
@@ -86,6 +88,12 @@ def all_of(connection):
     return found
 
 
+def end_process(number):
+    """Ends a process that should have ended, if it hasn't."""
+    with contextlib.suppress(ProcessLookupError):
+        os.kill(number, signal.SIGKILL)
+
+
 class InARoom(unittest.TestCase):
     """Cases with a folder of their own, which end their servers."""
 
@@ -101,7 +109,9 @@ class InARoom(unittest.TestCase):
 
     def kill(self, process):
         process.kill()
-        process.communicate()
+        process.wait()
+        for pipe in filter(None, (process.stdout, process.stderr)):
+            pipe.close()
 
     def names(self):
         return sorted(it.name for it in self.room.iterdir())
@@ -188,6 +198,7 @@ class Signals(InARoom):
     def test_the_program_ends_with_it(self):
         for words in (["--sessions", "9"], ["--until-eof"], ["--save", "rows.csv"]):
             served = self.start(*words).listening()
+            self.addCleanup(end_process, served.program())
             with self.subTest(words), served.client() as one:
                 one.sendall(b"layout 0\n" * 100_000)
                 self.kill(served.process)
@@ -207,6 +218,22 @@ class Signals(InARoom):
         status, _, errors = served.end()
         self.assertEqual(status, 128 + 9)
         self.assertTrue(errors.endswith("crackd: the program was ended by SIGKILL\n"), errors)
+
+    def test_a_signal_amid_the_start_ends_the_program(self):
+        (self.room / "program").write_text("#!/bin/sh\nexec sleep 1000\n")
+        (self.room / "program").chmod(0o755)
+        for it in supervised.SIGNALS:
+            self.addCleanup(signal.signal, it, signal.getsignal(it))
+
+        def popen(*words, start=subprocess.Popen, **pipes):
+            os.kill(os.getpid(), signal.SIGTERM)
+            return start(*words, **pipes)
+
+        run = supervised.Plain(supervised.Options(["--sessions", "1"]), str(self.room / "program"))
+        with mock.patch.object(subprocess, "Popen", popen), self.assertRaises(supervised.Stopped):
+            run.run()
+        run.kill()
+        self.assertEqual(run.process.returncode, -signal.SIGKILL)
 
     def test_all_of_many_clients_end(self):
         """None is cut off under load, and what was answered is saved."""
@@ -258,19 +285,19 @@ class Files(InARoom):
     def test_nobody_connects_before_all_is_loaded(self):
         rows = 100_000
         (self.room / "rows.csv").write_text("".join(f"{it},1\n" for it in range(rows)))
-        served = self.start("--load", "rows.csv")
-        while not served.is_open():
-            self.assertIsNone(served.process.poll())
-        with served.client() as one:
-            one.sendall(b"count 0 18446744073709551616\nstats\n")
-            self.assertTrue(one.recv(1000).startswith(b"count %d\n" % rows))
-        served.listening()
-        # a partition for each 65,536 rows, all of which are merged
-        with crackd.connect(port=served.port) as table:
-            self.assertEqual([it.rows for it in table.layout().parts], [rows // 2] * 2)
-            self.assertEqual(table.stats()["pending_insertions"], 0)
-        served.signal(signal.SIGTERM)
-        self.assertEqual(served.end()[0], 0)
+        # a partition for each 65,536 rows, unless splits are given
+        for splits, parts in [([], [rows // 2] * 2), (["5"], [5, rows - 5])]:
+            served = self.start("--load", "rows.csv", *splits)
+            while not served.is_open():
+                self.assertIsNone(served.process.poll())
+            with served.client() as one:
+                one.sendall(b"stats\n")
+                self.assertIn(b"\nrows %d\npending_insertions 0\n" % rows, one.recv(1000))
+            served.listening()
+            with crackd.connect(port=served.port) as table:
+                self.assertEqual([it.rows for it in table.layout().parts], parts)
+            served.signal(signal.SIGTERM)
+            self.assertEqual(served.end()[0], 0)
 
     def test_the_port_is_closed_while_a_file_is_read(self):
         os.mkfifo(self.room / "rows.csv")
@@ -324,9 +351,13 @@ class Files(InARoom):
         self.assertEqual((status, output.split()[2:]), (0, "inserted 6 deleted 1 held 5".split()))
         self.assertRegex(errors, r"(?m)^\S+Z crackd: loaded 3 rows from rows.csv$")
         self.assertRegex(errors, r"(?m)^\S+Z crackd: saved 5 rows to rows.csv$")
-        self.assertEqual(
-            (self.room / "rows.csv").read_text(), "key,payload\n0,0\n1,11\n2,20\n3,30\n18446744073709551615,-7\n"
-        )
+        saved = "key,payload\n0,0\n1,11\n2,20\n3,30\n18446744073709551615,-7\n"
+        self.assertEqual((self.room / "rows.csv").read_text(), saved)
+        # once more, and without a change
+        served = self.start("--load", "rows.csv", "--save", "again.csv").listening()
+        served.signal(signal.SIGTERM)
+        self.assertEqual(served.end()[0], 0)
+        self.assertEqual((self.room / "again.csv").read_text(), saved)
 
     @wants_numpy
     def test_rows_of_other_files_go_round_with_their_type(self):
@@ -443,8 +474,13 @@ class Words(InARoom):
             self.assertIn(it, output)
 
     def test_options_and_values_are_told_apart_from_splits(self):
-        from crackd.supervised import Options
-
+        listed = subprocess.run([find_program(), "serve", "--help"], capture_output=True, text=True, check=True).stdout
+        with_values = re.findall(r"^ +--(\S+) <", listed, re.MULTILINE)
+        self.assertEqual(sorted(with_values), sorted(supervised.WITH_VALUES))
+        for name in with_values:
+            for words in ([f"--{name}", "7"], [f"--{name}=7"]):
+                found = supervised.Options([*words, "--until-eof"])
+                self.assertEqual((found.words, found.has_splits), ([*words, "--until-eof"], False))
         for words, passed, has_splits in [
             (["--port", "1", "--load", "x"], ["--port", "1", "--until-eof"], False),
             (["--port=1", "--quiet", "--load=x"], ["--port=1", "--quiet", "--until-eof"], False),
@@ -453,7 +489,7 @@ class Words(InARoom):
             (["--until-eof", "--workers", "2"], ["--until-eof", "--workers", "2"], False),
             (["--sessions=3"], ["--sessions=3"], False),
         ]:
-            found = Options(words)
+            found = supervised.Options(words)
             self.assertEqual((words, found.words, found.has_splits), (words, passed, has_splits))
             self.assertEqual(found.load, "x" if any("load" in it for it in words) else None)
 
