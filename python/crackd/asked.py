@@ -85,6 +85,12 @@ class Found:
         return found
 
 
+def check_found(found: Any) -> None:
+    """Raises ValueError if this isn't what `Found.arguments` returns, or None for a table of no CSV file."""
+    if found is not None and not (isinstance(found, dict) and found.keys() >= {"key", "payload", "header", "delimiter"}):
+        raise ValueError("it doesn't say how a CSV file was read")
+
+
 def text_of_found(found: dict[str, Any]) -> str:
     """What was found, in one line: key 'time' (ymd), payload 'price' (2 decimal places), a header, delimiter ','."""
     parts = [f"{name} {found[name]!r}{how_text(found, name)}" for name in ("key", "payload") if found[name] is not None]

@@ -188,7 +188,7 @@ def new_table(keys: Any, payloads: Any, found: Found, progress: Progress, option
         kind = keys.dtype if np is not None else {"d": "float64", "Q": "uint64", "q": "int64"}[keys.typecode]
     keys, payloads = scaled(keys, found.key_column), scaled(payloads, found.payload_column)
     table = Table.from_arrays(keys, payloads, key_type=kind, progress=progress, **options)
-    table.found = found.arguments()
+    table._told = {"found": found.arguments()}
     return table
 
 

@@ -18,17 +18,9 @@ Other = TypeVar("Other", bound=AnyTable)
 
 
 class TableHere(AnyTable):
-    """A table in this process.
-
-    Attributes
-    ----------
-    found : dict
-        How the file was read that `load_csv` made the table of: arguments of `load_csv` that read another file in the
-        same way. Other tables don't have this attribute.
-    """
+    """A table in this process."""
 
     _is_here = True
-    found: dict[str, Any]
     shards: int
     partitions: int
 
@@ -174,12 +166,21 @@ class TableHere(AnyTable):
         into.settle()
         return into
 
+    @property
+    def found(self) -> Optional[dict[str, Any]]:
+        """How `load_csv` read the file that the table was made of: arguments that read another file in the same way.
+
+        It is None for a table that wasn't made of a CSV file. `save` keeps it.
+        """
+        found = self._told.get("found")
+        return None if found is None else dict(found)
+
     @abc.abstractmethod
     def _memory(self) -> int:
         """About how many bytes of memory the rows take."""
 
     def _facts(self) -> Iterator[tuple[str, str]]:
-        if hasattr(self, "found"):
+        if self.found is not None:
             yield "of", text_of_found(self.found)
         if self.shards > 1:
             yield "shards", str(self.shards)

@@ -256,6 +256,8 @@ class Questions(Primitives):
         old, keys, payloads = yield from self._alone_steps(self._all_steps())
         keys, payloads = self._keys.exact(keys), self._payloads.exact(payloads)
         found = self._anew(keys, len(keys), options) if into is None else into
+        if into is None:
+            found._told = self._told
         try:
             new = yield found.insert_many(keys, payloads)
             yield found.settle()

@@ -18,6 +18,7 @@ import zlib
 from typing import Any, Iterator, Mapping, NamedTuple, NoReturn, Optional
 
 from .arrays import np
+from .asked import check_found
 from .decimals import PayloadType
 from .errors import Error
 from .keys import Keys
@@ -30,7 +31,7 @@ BEGIN = b"\x93NUMPY\x01\x00" + struct.pack("<H", HEAD - 10)
 END, MAGIC = struct.Struct("<II8s"), b"\x93CRACKD\n"
 # What else may be said about the rows, and the value where it isn't said. A file with a field that isn't named here is
 # refused, since its rows may mean something else than this version takes them for.
-FIELDS: dict[str, Any] = {"key_decimals": 0, "payload_decimals": 0, "zone": None}
+FIELDS: dict[str, Any] = {"key_decimals": 0, "payload_decimals": 0, "zone": None, "found": None}
 # those of them that the types of a table say
 OF_TYPES = ("key_decimals", "payload_decimals", "zone")
 # the head of a file of an earlier version is shorter than this
@@ -57,6 +58,7 @@ class Saved(NamedTuple):
     @staticmethod
     def of(kind: Keys, rows: Any, fields: Mapping[str, Any]) -> "Saved":
         """The same, of what a file says, with a value for each of `FIELDS`."""
+        check_found(fields["found"])
         kind = kind.with_decimals(fields["key_decimals"]).with_zone(fields["zone"])
         return Saved(kind, PayloadType(fields["payload_decimals"]), rows, kept_of(fields))
 

@@ -199,6 +199,29 @@ class Found(WithRefusals, unittest.TestCase):
         said = repr(self.loaded("k;p\n1,5;2\n", decimal=",", payload=None))
         self.assertIn("of key 'k' (1 decimal place), a header, delimiter ';', decimal sign ','", said)
         self.assertNotIn("of key", repr(crackd.Table()))
+        self.assertIsNone(crackd.Table().found)
+
+    def test_a_save_keeps_what_was_found(self):
+        with tempfile.TemporaryDirectory() as room:
+            path = pathlib.Path(room) / "rows.npy"
+            for text in ("wänn,temp\n2020-01-01 00:00:00Z,1.5\n", "1;2\n", "k|p\n1e5|2.25\n", f"{'k' * 5000},p\n1,2\n"):
+                table = self.loaded(text)
+                table.insert(table.select().keys[0], 7)
+                table.save(path)
+                again = crackd.Table.load(path)
+                self.addCleanup(again.close)
+                self.assertEqual((again.found, again.key_type), (table.found, table.key_type))
+                self.assertEqual((again.sum(), again.zone), (table.sum(), table.zone))
+                self.assertIn("of key", repr(again))
+                again.save(path)
+                self.assertEqual(crackd.Table.load(path).found, table.found)
+                self.assertEqual(table.rebalanced().table.found, table.found)
+            table = self.loaded("1,2\n")
+            for wrong in (5, [], "x", {"key": 0}, {}):
+                table._told = {"found": wrong}
+                table.save(path)
+                with self.assertRaises(crackd.BadSave):
+                    crackd.Table.load(path)
 
 
 @wants_library

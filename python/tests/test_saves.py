@@ -193,7 +193,7 @@ class Forms(InARoom):
         with crackd.Table.from_arrays([5, 6]) as table, mock.patch.dict(saved.FIELDS, {"source": None, "places": 0}):
             table.save(self.path)
             with crackd.Table.load(self.path) as plain:
-                self.assertEqual(plain._told, {"source": None, "places": 0})
+                self.assertEqual(plain._told, {"found": None, "source": None, "places": 0})
                 plain._told = {"source": "a file", "places": 0}
                 plain.save(self.path)
             found = saved.read_saved(self.path)
@@ -666,7 +666,7 @@ class AtOnceOnACluster(InARoom):
                 table.insert(1, 2)
                 manifest = table.save(folder)
             self.assertEqual(manifest["source"], "UTC")
-            self.assertEqual(saved.read_saved(folder / manifest["files"][0]).told, {"source": "UTC"})
+            self.assertEqual(saved.read_saved(folder / manifest["files"][0]).told, {"found": None, "source": "UTC"})
         self.assertRaisesRegex(crackd.BadSave, "source", cluster.Table.restore, client, folder)
 
     def test_no_folder(self):
