@@ -197,7 +197,7 @@ class Forms(InARoom):
                 plain._told = {"source": "a file", "places": 0}
                 plain.save(self.path)
             found = saved.read_saved(self.path)
-            self.assertEqual(found.told, {"source": "a file", "places": 0})
+            self.assertEqual(found.told, {"found": None, "source": "a file", "places": 0})
             with crackd.Table.load(self.path) as loaded:
                 loaded.save(self.path)
                 self.assertEqual(saved.read_saved(self.path).told, found.told)
