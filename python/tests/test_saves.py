@@ -203,7 +203,7 @@ class Forms(InARoom):
                 self.assertEqual(saved.read_saved(self.path).told, found.told)
             np.save(self.path.with_name("old.npy"), np.load(self.path))
             with crackd.Table.load(self.path.with_name("old.npy")) as old:
-                self.assertEqual(old._told, {"source": None, "places": 0})
+                self.assertEqual(old._told, {"found": None, "source": None, "places": 0})
         said = "doesn't know what it says of its rows: source, places"
         self.assertRaisesRegex(crackd.BadSave, said, crackd.Table.load, self.path)
 
