@@ -87,7 +87,8 @@ class Found:
 
 def check_found(found: Any) -> None:
     """Raises ValueError if this isn't what `Found.arguments` returns, or None for a table of no CSV file."""
-    if found is not None and not (isinstance(found, dict) and found.keys() >= {"key", "payload", "header", "delimiter"}):
+    names = {"key", "payload", "header", "delimiter"}
+    if found is not None and not (isinstance(found, dict) and found.keys() >= names):
         raise ValueError("it doesn't say how a CSV file was read")
 
 

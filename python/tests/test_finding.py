@@ -178,8 +178,13 @@ class Found(WithRefusals, unittest.TestCase):
 
     def test_what_was_found_loads_the_same_file(self):
         for text in [
-            "a,b\n1,2\n", "1;2.5\n2;3\n", "t,n\n2020-01-01 00:00,1e2\n2020-01-02,7\n", f"k|p\n{2**64 - 1}|-1.25\n",
-            "n,t,n\n5,2020-01-01T00:00:00Z,6\n", "k\tp\n1e5\t1\n", 'k;p\n1,5;"2,25"\n',
+            "a,b\n1,2\n",
+            "1;2.5\n2;3\n",
+            "t,n\n2020-01-01 00:00,1e2\n2020-01-02,7\n",
+            f"k|p\n{2**64 - 1}|-1.25\n",
+            "n,t,n\n5,2020-01-01T00:00:00Z,6\n",
+            "k\tp\n1e5\t1\n",
+            'k;p\n1,5;"2,25"\n',
         ]:
             options = {"decimal": ","} if '"' in text else {}
             table = self.loaded(text, **options)
@@ -190,8 +195,8 @@ class Found(WithRefusals, unittest.TestCase):
 
     def test_the_text_of_a_table(self):
         for text, said in {
-            "when,temp\n2020-01-01,1.5\n": "of key 'when' (year, month, day), payload 'temp' (1 decimal place), a header, "
-            "delimiter ','",
+            "when,temp\n2020-01-01,1.5\n": "of key 'when' (year, month, day), payload 'temp' (1 decimal place), a header"
+            ", delimiter ','",
             "1;2\n": "of key 0 (integers), payload 1 (integers), no header, delimiter ';'",
             "k|p\n1e5|2.25\n": "of key 'k' (floats), payload 'p' (2 decimal places), a header, delimiter '|'",
         }.items():
@@ -204,7 +209,8 @@ class Found(WithRefusals, unittest.TestCase):
     def test_a_save_keeps_what_was_found(self):
         with tempfile.TemporaryDirectory() as room:
             path = pathlib.Path(room) / "rows.npy"
-            for text in ("wänn,temp\n2020-01-01 00:00:00Z,1.5\n", "1;2\n", "k|p\n1e5|2.25\n", f"{'k' * 5000},p\n1,2\n"):
+            texts = ["wänn,temp\n2020-01-01 00:00:00Z,1.5\n", "1;2\n", "k|p\n1e5|2.25\n", f"{'k' * 5000},p\n1,2\n"]
+            for text in texts:
                 table = self.loaded(text)
                 table.insert(table.select().keys[0], 7)
                 table.save(path)
@@ -234,7 +240,8 @@ class Refused(WithRefusals, unittest.TestCase):
         needs = {"key": ("when",), "payload": ("price",), "key_format": ("%b %d %Y",)}
         error = self.refused(text, needs)
         self.assertEqual((error.line, error.column), (2, 1))
-        self.assertIn("column 1 (name): 'x' is neither a number nor a date; the columns that fit are when, price", str(error))
+        said = "column 1 (name): 'x' is neither a number nor a date; the columns that fit are when, price"
+        self.assertIn(said, str(error))
         self.refused("x,5,y,6\n", {"key": (1,), "payload": (3,)})
         self.refused("when,name,n\n2020-01-01,x,5\n", {"key": ("when",), "payload": ("n",)})
         self.refused("when,name,n\n2020-01-01,x,5\n", {"key": ("when",), "payload": ("n",)}, payload="name")
@@ -513,7 +520,8 @@ class Sources(WithRefusals, unittest.TestCase):
         path = self.path(self.TEXT, "utf-16")
         self.assertEqual(self.refused(path, {"encoding": ("utf-16",)}, **self.HOW).line, 1)
         # with all other arguments
-        error = self.refused(self.path(self.TEXT, "latin-1"), {"key": ("k",), "payload": ("p",), "encoding": ("latin-1",)})
+        needs = {"key": ("k",), "payload": ("p",), "encoding": ("latin-1",)}
+        error = self.refused(self.path(self.TEXT, "latin-1"), needs)
         self.assertEqual(error.line, 2)
 
     def test_a_missing_file(self):
@@ -595,7 +603,8 @@ class Reading(unittest.TestCase):
         fields = ["2020-02-29", "2020/12/31", "0001-01-01", "9999-12-31T23:59:59.999999", "1969-12-31 23:59:59.5"]
         fields += ["2020-01-01T24", "2021-02-29", "2020-13-01", "2020-00-01", "2020-01-00", "0000-01-01", "2020-01/01"]
         fields += ["2020-01-01 00:60", "2020-01-01 00:00:60", "2020-1-1", "2020-01-01x00", "2020-01-01 00:00:00."]
-        fields += ["2020-01-01 00:00:00.1234567", "2020-01-01\0", "2020-04-31", "1900-02-29", "2000-02-29", "٣020-01-01"]
+        fields += ["2020-01-01 00:00:00.1234567", "2020-01-01\0", "2020-04-31", "1900-02-29", "2000-02-29"]
+        fields += ["٣020-01-01"]
         zones = ["Z", "+01:00", "-12:45", "+24:00", "+01:60", "+0100"]
         for field, unit in itertools.product(fields, ("us", "ns")):
             for zone in ("", *zones):
@@ -623,7 +632,8 @@ class Reading(unittest.TestCase):
 
     def test_decimals(self):
         drawn = random.Random(3)
-        fields = ["1.5", "-.5", "+3.", "0", "-0.00", "1.25", "007.5", ".", "-", "", "1.2.3", "1-2", "1e3", " 1", "1\0", "٣"]
+        fields = ["1.5", "-.5", "+3.", "0", "-0.00", "1.25", "007.5", ".", "-", "", "1.2.3", "1-2", "1e3"]
+        fields += [" 1", "1\0", "٣"]
         fields += ["9" * 18, "9" * 19, "9" * 16 + ".99", "9" * 17 + ".99", "-" + "9" * 16 + ".9", "0.1234567890"]
         fields += ["".join(drawn.choice("0123456789.-+") for _ in range(drawn.randrange(1, 8))) for _ in range(500)]
         for field, decimals in itertools.product(fields, (1, 2, 9, 17)):
@@ -664,9 +674,20 @@ class Reading(unittest.TestCase):
 
     def test_shapes(self):
         for field, kind in {
-            "1": "number", "-1.5": "number", "1,234.5": "number", "1 234": "number", "": "gap", "NA": "gap", "x": "text",
-            "1111-11-11": "time", "11/11/1111": "date", "11:11": "text", "1.1.1.1": "text", "1_1": "text",
-            "1-1": "text", "12 apples".translate(str.maketrans("2", "1")): "text",
+            "1": "number",
+            "-1.5": "number",
+            "1,111.1": "number",
+            "1 111": "number",
+            "": "gap",
+            "NA": "gap",
+            "x": "text",
+            "1111-11-11": "time",
+            "11/11/1111": "date",
+            "11:11": "text",
+            "1.1.1.1": "text",
+            "1_1": "text",
+            "1-1": "text",
+            "11 apples": "text",
         }.items():
             self.assertEqual(shape_of(field).kind, kind, field)
 

@@ -100,7 +100,8 @@ class Forms(Agreeing, unittest.TestCase):
             cents = self.drawn.randrange(-(10**7), 10**7)
             whole = f"{abs(cents) // 100:,}".replace(",", ".")
             day = f"{self.drawn.randrange(1, 29):02}.{self.drawn.randrange(1, 13):02}.2026"
-            lines.append(f'{day};"Miete; {self.drawn.randrange(99)}";{"-" * (cents < 0)}{whole},{abs(cents) % 100:02};EUR')
+            amount = f"{'-' * (cents < 0)}{whole},{abs(cents) % 100:02}"
+            lines.append(f'{day};"Miete; {self.drawn.randrange(99)}";{amount};EUR')
         self.write(lines, "latin-1")
         needs = {"key": ("Buchungstag",), "payload": ("Betrag",), "key_format": ("%d.%m.%Y",), "decimal": (",",)}
         table = self.loaded(self.path, {**needs, "encoding": ("latin-1",)})

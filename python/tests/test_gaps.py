@@ -1,4 +1,4 @@
-"""Rows with gaps, in arrays, frames and Arrow data: they are refused with the argument that leaves them out, or left out."""
+"""Rows with gaps, in arrays, frames and Arrow data: a refusal names the argument that leaves them out, and it does so."""
 
 import array
 import datetime
@@ -83,7 +83,8 @@ class Arrays(WithTables, unittest.TestCase):
         self.expect([(1, 0), (3, 2)], 1, crackd.from_arrays, [1, None, 3])
 
     def test_gaps_in_keys_and_payloads(self):
-        keys, payloads = np.ma.masked_array([1, 2, 3, 4], [0, 1, 0, 1]), np.ma.masked_array([10, 20, 30, 40], [0, 0, 1, 1])
+        keys = np.ma.masked_array([1, 2, 3, 4], [0, 1, 0, 1])
+        payloads = np.ma.masked_array([10, 20, 30, 40], [0, 0, 1, 1])
         self.expect([(1, 10)], 3, crackd.from_arrays, keys, payloads)
         self.expect([], 1, crackd.from_arrays, [1], np.ma.masked_array([10], [1]))
 
@@ -92,7 +93,8 @@ class Arrays(WithTables, unittest.TestCase):
             self.expect_rows([(1, 5), (2, 6)], 0, crackd.from_arrays, items, [5, 6], missing="skip")
         for items in ([1, 2], np.array([1.0, 2.0]), np.ma.masked_array([1, 2]), iter([1, 2])):
             self.expect_rows([(1, 5), (2, 6)], 0, crackd.from_arrays, items, iter([5, 6]))
-        self.expect_rows([(1.25, 5)], 0, crackd.from_arrays, [decimal.Decimal("1.25")], [5], key_decimals=2, missing="skip")
+        how = {"key_decimals": 2, "missing": "skip"}
+        self.expect_rows([(1.25, 5)], 0, crackd.from_arrays, [decimal.Decimal("1.25")], [5], **how)
 
     def test_other_errors_say_nothing_of_gaps(self):
         for words, options in [(([1, "x"],), {}), (([1, 2], [3]), {}), (([1.5], [1.5]), {}), (([2**70],), {})]:
@@ -155,7 +157,8 @@ class Frames(WithTables, unittest.TestCase):
     def test_decimals_are_found_among_the_rest(self):
         frame = pd.DataFrame({"k": [1.5, None, 3.25], "p": [NAN, 2, 3.125]})
         with crackd.from_pandas(frame, "k", "p", missing="skip") as table:
-            self.assertEqual((table.key_decimals, table.payload_decimals, table.sum()), (2, 3, decimal.Decimal("3.125")))
+            found = table.key_decimals, table.payload_decimals, table.sum()
+            self.assertEqual(found, (2, 3, decimal.Decimal("3.125")))
 
 
 @wants_library
@@ -181,6 +184,12 @@ class Arrow(WithTables, unittest.TestCase):
             return crackd.from_arrow(data, *words, **options)
         finally:
             self.assertEqual(data.alive, 0)
+
+    def test_rows_that_are_missing_as_a_whole(self):
+        for gap in range(3):
+            data = Data({"k": ("l", [[0, 1, 2, 3]]), "p": ("l", [[0, 10, 20, 30]])}, skipped=1, gap=1 + gap)
+            with crackd.from_arrow(data, "k", "p", missing="skip") as table:
+                self.assertEqual((table.count(), table.skipped, table.sum()), (3, 1, 60 - 10 * (gap + 1)))
 
     def test_floats_and_dates(self):
         data = {"k": ("g", [[1.5, None, NAN, 4.5]]), "p": ("l", [[1, 2, 3, 4]])}
