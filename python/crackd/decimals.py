@@ -16,8 +16,8 @@ MOST_DECIMALS = 9
 PARTS = 10**9
 # floats above this number aren't multiplied exactly, and decimals of more digits than 15 aren't found among floats
 EXACT, MOST_FOUND = 1 << 52, 10**15
-# decimal places are found among floats if each is within one part in 10**12 of its decimal, and this near to it, counted
-# in units of the last place
+# decimal places are found among floats if each is within one part in 10**12 of its decimal, and this near to it,
+# counted in units of the last place
 NEAR, NEARNESS = 1e-12, 1e-3
 FLOATS_AT_ONCE = 1 << 14
 # wide enough for every key, payload and sum

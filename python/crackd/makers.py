@@ -70,7 +70,7 @@ class TableHere(AnyTable):
 
         Notes
         -----
-        Nullable integer columns are accepted. Dates with a time zone become UTC.
+        Nullable integer columns are accepted. Dates with a time zone make a table of that zone.
         """
         words = (frame, key, payload)
         return cls._from_columns(columns_of_pandas, words, key_decimals, payload_decimals, missing, options)

@@ -97,8 +97,8 @@ class Table(TableHere, Sharded):
             or "int64" without a sample.
         key_decimals, payload_decimals : int, optional
             The numbers of decimal places of keys and payloads, 0 to 9. With `payload_decimals=2` the payload 12.34 is
-            stored as the integer 1234, exactly. Payloads may then be integers, decimals, fractions or floats. A float is
-            rounded, half to even, if it is within one part in 10**9 of such a decimal, and else refused.
+            stored as the integer 1234, exactly. Payloads may then be integers, decimals, fractions or floats. A float
+            is rounded, half to even, if it is within one part in 10**9 of such a decimal, and else refused.
         zone : str or tzinfo, optional
             The time zone of keys that are dates, such as "Europe/Berlin". Texts and times without a zone are of this
             zone, and so are results; keys are stored in UTC. The default is the zone of `sample`.

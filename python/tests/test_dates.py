@@ -36,7 +36,8 @@ TEXTS = {
 NO_TEXTS = ["", "now", "today", "NaT", "nat", "2020-1-1", "20-01-01", "2020-01-01T", "2020-01-01 ", " 2020", "2020-"]
 NO_TEXTS += ["2020-13-01", "2020-00-01", "2021-02-29", "2020-01-32", "2020-01-01T24:00", "2020-01-01T12:60"]
 NO_TEXTS += ["2020-01-01Z", "2020-01-01+01:00", "2020-01-01T00:00+1", "2020-01-01T00:00+24:00", "2020-01-01T00:00 Z"]
-NO_TEXTS += ["2020-01-01T00:00+01:60", "2020-01-01T00:00z", "202001", "10000", "10000-01-01", "20200101", "2020Z", "2020-01-01T12:30:00.", "2020-01-01T12:30.5", "2020-01-01.5"]
+NO_TEXTS += ["2020-01-01T00:00+01:60", "2020-01-01T00:00z", "202001", "10000", "10000-01-01", "20200101", "2020Z"]
+NO_TEXTS += ["2020-01-01T12:30:00.", "2020-01-01T12:30.5", "2020-01-01.5"]
 NO_TEXTS += ["2020-01-01T12:30:00.1234567890123456789", "1234567-01-01", "123", "2020/01/01", "20200101x", "\u0662020"]
 
 
@@ -75,7 +76,8 @@ class Dates:
                     self.assertRaises(ValueError, table.insert_many, np.array(["2020", text]), [1, 2])
                     self.assertRaises(ValueError, table.update, 0, text, 1)
                     self.assertRaises(ValueError, table.move, 0, text)
-            self.assertRaisesRegex(ValueError, "a year of more than four digits needs a sign", table.count, "202001", None)
+            said = "a year of more than four digits needs a sign"
+            self.assertRaisesRegex(ValueError, said, table.count, "202001", None)
             self.assertEqual(table.count(), 1)
 
     def test_each_text_is_a_key(self):

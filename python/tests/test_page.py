@@ -35,12 +35,18 @@ class Page(unittest.TestCase):
             pathlib.Path(name).write_text(text, encoding="utf-8")
 
     def test_its_programs_run(self):
-        frames, files, rows, server, notebook = re.findall(
-            r"```python\n(.*?)```", PAGE.read_text(encoding="utf-8"), re.DOTALL
-        )
+        text = PAGE.read_text(encoding="utf-8")
+        frames, files, rows, server, notebook = re.findall(r"```python\n(.*?)```", text, re.DOTALL)
         names = {"crackd": crackd}
         if importlib.util.find_spec("pandas") is not None:
             exec(frames, names)
+            for each in re.findall(r"```python needs=pandas\n(.*?)```", text, re.DOTALL):
+                # what a comment says is what the line returns
+                form = r"(?m)^    (.+?) +# ([\[(0-9][^:\n]*|Decimal[^,\n]*).*$"
+                each, told = re.subn(form, r"    check((\1), \2)", each)
+                self.assertGreater(told, 1)
+                check = lambda found, wanted: self.assertEqual(getattr(found, "tolist", lambda: found)(), wanted)
+                exec(each, {**names, "check": check, "Decimal": decimal.Decimal})
         exec(files, names)
         self.assertEqual((names["table"].count(), names["table"].sum()), (3, decimal.Decimal("1274.74")))
         with crackd.Table.load("rows.npy") as loaded:

@@ -28,7 +28,8 @@ from ways import (
 
 from crackd import library, questions
 
-FEW = ("list of int", "decimals", "times in Berlin", "int8", "uint64", "float64", "datetime64[M]", "datetime64[s]", "datetime64[ns]")
+FEW = ("list of int", "decimals", "times in Berlin", "int8", "uint64", "float64", "datetime64[M]")
+FEW += ("datetime64[s]", "datetime64[ns]")
 WORKERS = 2
 
 

@@ -119,7 +119,8 @@ class Zones:
                         self.assertEqual(str(key), str(shown[at]))
                     naive = {int(row): it.replace(tzinfo=None) for row, it in zip(rows, shown)}
                     for got in (table.select(), *table.select_chunks(size=100)):
-                        self.assertEqual([it.item() for it in got.keys.astype("M8[us]")], [naive[it] for it in got.rows])
+                        wanted = [naive[it] for it in got.rows]
+                        self.assertEqual([it.item() for it in got.keys.astype("M8[us]")], wanted)
                     got = table.select(raw=True)
                     whole = {int(row): it.replace(tzinfo=None) for row, it in zip(rows, moments)}
                     self.assertEqual(got.keys.dtype, np.dtype(dtype))
@@ -146,6 +147,7 @@ class Zones:
             row = table.insert("2020-05-01", 7)
             for text, *offsets in TWICE + NEVER:
                 how = "shown twice" if (text, *offsets) in TWICE else "never shown"
+                said = f"{how} by the clocks of Europe/Berlin: add an offset"
                 for it in local_forms(text):
                     for call in (table.count, table.sum, table.select, table.mean, table.delete_range):
                         self.assertRaisesRegex(ValueError, how, call, it)
@@ -156,7 +158,7 @@ class Zones:
                     calls += [lambda it=it: table.update(row, it, 1), lambda it=it: table.update_many([row], [it], [1])]
                     calls += [lambda it=it: table.insert_many([np.datetime64("2020-05-02", "s"), it], [1, 2])]
                     for call in calls:
-                        with self.assertRaisesRegex(ValueError, f"{how} by the clocks of Europe/Berlin: add an offset") as caught:
+                        with self.assertRaisesRegex(ValueError, said) as caught:
                             call()
                         for offset in offsets:
                             self.assertIn(text[:16], str(caught.exception))
@@ -234,7 +236,8 @@ class Zones:
         table.save(path)
         with crackd.Table.load(path) as other:
             yield other
-        for zone, local_time in (("UTC", "2020-10-25T00:30"), ("Asia/Tokyo", "2020-10-25T09:30"), (None, "2020-10-25T00:30")):
+        times = {"UTC": "2020-10-25T00:30", "Asia/Tokyo": "2020-10-25T09:30", None: "2020-10-25T00:30"}
+        for zone, local_time in times.items():
             with crackd.Table(key_type="datetime64[us]", zone=zone) as other:
                 crackd.Table.load(path, into=other)
                 self.assertEqual(other.sum(local_time), 3)
@@ -244,7 +247,9 @@ class Zones:
             table.insert_many(["2020-10-25T02:30+02:00", "2020-10-25T02:30+01:00", "2020-07-01"], [1, 2, 4])
             found = table.rebalanced()
             with found.table as other:
-                self.assertEqual((other.zone, other.select("2020-10-25").keys.tolist()), (table.zone, table.select("2020-10-25").keys.tolist()))
+                self.assertEqual(other.zone, table.zone)
+                shown = (it.select("2020-10-25").keys.tolist() for it in (other, table))
+                self.assertEqual(*shown)
             for zone, text in (("UTC", "2020-10-25T00:30"), (None, "2020-10-25T00:30")):
                 with crackd.Table(key_type="datetime64[us]", zone=zone) as other:
                     table.rebalanced(into=other)
@@ -265,13 +270,15 @@ class Clocks(unittest.TestCase):
             near = []
             for year in (1949, 1999, 2011, 2020, 2037, 2038, 2100):
                 begins, _ = clock._changes_of(year)
-                near += [it + more for it in begins for more in (-86_400, -3601, -1, 0, 1, 1800, 3599, 3600, 7200, 86_399)]
+                beside = (-86_400, -3601, -1, 0, 1, 1800, 3599, 3600, 7200, 86_399)
+                near += [it + more for it in begins for more in beside]
             near += [draws.randrange(-(10**9), 4 * 10**9) for _ in range(300)]
             offsets = clock.offsets(np.array(near)).tolist()
             shown = [(EPOCH + datetime.timedelta(seconds=it)).astimezone(zone) for it in near]
             self.assertEqual(offsets, [it.utcoffset().total_seconds() for it in shown], name)
-            for local_time in [it.replace(tzinfo=None) for it in shown] + [it.replace(tzinfo=None) + HOUR for it in shown]:
-                self.one(clock, zone, local_time)
+            for it in shown:
+                for more in (0 * HOUR, HOUR):
+                    self.one(clock, zone, it.replace(tzinfo=None) + more)
 
     def one(self, clock, zone, shown):
         """A local time, whose moments are those that the zone shows as this time again."""
@@ -284,7 +291,8 @@ class Clocks(unittest.TestCase):
                 if moment.astimezone(zone).replace(tzinfo=None) == shown
             }
         )
-        calls = [lambda: clock.moment(seconds, False, "it"), lambda: clock.moments(np.array([0, seconds]), False, "them")[1]]
+        calls = [lambda: clock.moment(seconds, False, "it")]
+        calls += [lambda: clock.moments(np.array([0, seconds]), False, "them")[1]]
         for call in calls:
             if len(moments) == 1:
                 self.assertEqual(EPOCH + datetime.timedelta(seconds=int(call())), moments[0], (zone, shown))
@@ -296,18 +304,21 @@ class Clocks(unittest.TestCase):
         if moments:
             self.assertEqual(first, moments[0])
         else:
-            before, after = ((first + it).astimezone(zone).replace(tzinfo=None) for it in (datetime.timedelta(seconds=-1), 0 * HOUR))
+            beside = (first - datetime.timedelta(seconds=1), first)
+            before, after = (it.astimezone(zone).replace(tzinfo=None) for it in beside)
             self.assertTrue(before < shown < after)
 
     def test_names(self):
         berlin = zoneinfo.ZoneInfo("Europe/Berlin")
-        pairs = [(None, None), ("Europe/Berlin", "Europe/Berlin"), (berlin, "Europe/Berlin"), (UTC, "UTC"), ("Z", "UTC")]
+        pairs = [(None, None), ("Europe/Berlin", "Europe/Berlin"), (berlin, "Europe/Berlin"), (UTC, "UTC")]
+        pairs += [("Z", "UTC")]
         pairs += [(zoneinfo.ZoneInfo("UTC"), "UTC"), ("+0530", "+05:30"), ("-03", "-03:00"), ("+00:00", "UTC")]
-        pairs += [(datetime.timezone(-HOUR / 2), "-00:30"), (datetime.timezone(datetime.timedelta(seconds=3661)), "+01:01:01")]
+        pairs += [(datetime.timezone(-HOUR / 2), "-00:30"), (datetime.timezone(HOUR * 3661 / 3600), "+01:01:01")]
         if importlib.util.find_spec("pytz"):
             import pytz
 
-            pairs += [(pytz.timezone("Europe/Berlin"), "Europe/Berlin"), (pytz.utc, "UTC"), (pytz.FixedOffset(90), "+01:30")]
+            pairs += [(pytz.timezone("Europe/Berlin"), "Europe/Berlin"), (pytz.utc, "UTC")]
+            pairs += [(pytz.FixedOffset(90), "+01:30")]
         if importlib.util.find_spec("dateutil"):
             import dateutil.tz
 
@@ -362,19 +373,22 @@ class Made(unittest.TestCase):
             with table:
                 self.assertEqual(table.zone, "Europe/Berlin")
                 self.assertIn("datetime64[ns] keys, zone Europe/Berlin", repr(table))
-                self.assertEqual(table.count_by(["2020-10-24", "2020-10-25", "2020-10-26", "2020-10-27"]).tolist(), [24, 25, 24])
+                days = ["2020-10-24", "2020-10-25", "2020-10-26", "2020-10-27"]
+                self.assertEqual(table.count_by(days).tolist(), [24, 25, 24])
                 self.assertEqual([table.get(it).key for it in table.row_numbers], list(index))
                 self.assertEqual(sorted(table.select().to_pandas().key), list(index))
         self.assertRaises(TypeError, crackd.Table.from_pandas, frame, "p", "t")
         many = frame.loc[np.arange(50_000) % len(frame)]
         with crackd.Table.from_pandas(many, "t", "p", shards=2) as table:
-            self.assertEqual((table.zone, table.count("2020-10-25", "2020-10-26")), ("Europe/Berlin", (many.t.dt.day == 25).sum()))
+            found = table.zone, table.count("2020-10-25", "2020-10-26")
+            self.assertEqual(found, ("Europe/Berlin", (many.t.dt.day == 25).sum()))
 
     def test_arrow(self):
         seconds = [1603585800, 1603589400]
         for form, scale in (("tss", 1), ("tsm", 10**3), ("tsu", 10**6), ("tsn", 10**9)):
             for name in ("Europe/Berlin", "+01:00", "UTC", ""):
-                data = Data({"k": (f"{form}:{name}", [[seconds[0] * scale], [seconds[1] * scale]]), "p": ("l", [[1], [2]])})
+                times = [[it * scale] for it in seconds]
+                data = Data({"k": (f"{form}:{name}", times), "p": ("l", [[1], [2]])})
                 with crackd.Table.from_arrow(data, "k", "p") as table:
                     self.assertEqual(table.zone, name or None)
                     self.assertEqual(table.sum("2020-10-25T01:30Z"), 2)
