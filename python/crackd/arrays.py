@@ -76,6 +76,8 @@ def items_of(it: Any, what: str) -> Any:
     """
     if isinstance(it, Given):
         return it
+    if hasattr(getattr(it, "dtype", None), "categories"):
+        return items_of(of_categories(it), what)
     if getattr(getattr(it, "dtype", None), "tz", None) is not None and hasattr(it, "__array__"):
         from .zones import Zoned, zone_name
 
@@ -91,6 +93,14 @@ def items_of(it: Any, what: str) -> Any:
 def sized(it: Any) -> Any:
     """Items that have a length: those of a generator or another iterator as a list, and all others as they are."""
     return it if hasattr(it, "__len__") else list(it)
+
+
+def of_categories(it: Any) -> Any:
+    """The items of a pandas column or index of categories, in the type of these."""
+    codes = np.asarray(it.cat.codes if hasattr(it, "cat") else it.codes)
+    if (codes < 0).any():
+        raise ValueError(f"item {int(np.argmax(codes < 0))} of the column is missing")
+    return it.dtype.categories.take(codes)
 
 
 def types_of(items: Any) -> set[type]:

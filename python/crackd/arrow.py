@@ -127,16 +127,15 @@ class Column:
         names = [text_of(it.name) for it in schemas]
         self.place = place_of(names, wanted)
         own = schemas[self.place]
-        self.name, form = names[self.place] or self.place, text_of(own.format)
-        # the items of a column of categories are the places of their values in a dictionary
-        self.places = NUMBERS.get(form) if own.dictionary else None
-        if self.places is not None:
-            form = text_of(own.dictionary.contents.format)
+        # a column with a dictionary has places of items in it, and the dictionary has their type
+        self.coded = NUMBERS.get(text_of(own.format)) if own.dictionary else None
+        form = text_of((own.dictionary.contents if self.coded else own).format)
+        self.name = names[self.place] or self.place
         self.dtype, self.unit, self.zone = NUMBERS.get(form), None, None
         if self.dtype is None:
             self.dtype, self.unit = DATES.get(form.partition(":")[0], (None, None))
             self.zone = zone_name(form.partition(":")[2] or None) if self.dtype is not None else None
-        if self.dtype is None or own.dictionary and np.dtype(self.places).kind not in "iu":
+        if self.dtype is None:
             raise TypeError(f"column {self.name!r} has the Arrow type {form!r}, which is no number and no date")
 
     def whole(self, parts: Sequence[Any]) -> Any:
@@ -162,24 +161,26 @@ class Column:
             self.check_whole(own, offset - own.offset, batch.length, before)
         if not batch.length:
             return self.empty()
-        gaps = self.all_gaps(batch, own, offset) if self.has_gaps else None
-        if self.places is None:
-            items = buffer_of(own, offset, batch.length, self.dtype)
-        else:
-            items = self.values(own, offset, batch.length, before, gaps)
-        return self.typed(items) if gaps is None else np.ma.masked_array(self.typed(items), gaps)
+        if self.coded:
+            return self.looked_up(batch, own, offset, before)
+        items = self.typed(numbers_at(own, offset, batch.length, self.dtype))
+        return np.ma.masked_array(items, self.all_gaps(batch, own, offset)) if self.has_gaps else items
 
-    def values(self, own: Array, offset: int, length: int, before: int, gaps: Any) -> Any:
-        """The values of a column of categories. Where `gaps` says that an item is missing, its value is any."""
-        values = own.dictionary.contents
-        self.check_whole(values, 0, values.length, before)
-        found = buffer_of(values, values.offset, values.length, self.dtype)
-        places = buffer_of(own, offset, length, self.places)
-        if gaps is None or not gaps.any():
-            return found[places]
-        items = np.zeros(length, self.dtype)
-        items[~gaps] = found[places[~gaps]]
-        return items
+    def looked_up(self, batch: Array, own: Array, offset: int, before: int) -> Any:
+        """The items of a batch whose places in a dictionary the column has."""
+        words = own.dictionary.contents
+        places = numbers_at(own, offset, batch.length, self.coded).astype(np.int64)
+        items = self.typed(numbers_at(words, words.offset, words.length, self.dtype))
+        gaps = self.gaps(words, 0, words.length)
+        if not self.has_gaps:
+            if gaps[places].any():
+                raise Gap(f"column {self.name!r} has a gap at row {before + int(np.argmax(gaps[places]))}")
+            return items[places]
+        # a missing place may be any number
+        is_gap = self.all_gaps(batch, own, offset)
+        items, gaps = np.append(items, items.dtype.type(0)), np.append(gaps, True)
+        places = np.where(is_gap, len(items) - 1, places)
+        return np.ma.masked_array(items[places], is_gap | gaps[places])
 
     def all_gaps(self, batch: Array, own: Array, offset: int) -> Any:
         """Which of the column's items in a batch are missing, or are in a row that is missing."""
@@ -202,12 +203,10 @@ class Column:
         return np.unpackbits(bits, bitorder="little")[first : first + length] == 0
 
 
-def buffer_of(own: Array, offset: int, length: int, dtype: str) -> Any:
-    """A copy of the items of an array from its offset on."""
+def numbers_at(own: Array, offset: int, length: int, dtype: Any) -> Any:
+    """A copy of the numbers of an array from an offset on."""
     size = np.dtype(dtype).itemsize
-    if not length:
-        return np.empty(0, dtype)
-    return np.frombuffer(ctypes.string_at(own.buffers[1] + offset * size, length * size), dtype)
+    return np.frombuffer(ctypes.string_at(own.buffers[1] + offset * size, length * size) if length else b"", dtype)
 
 
 def text_of(text: Optional[bytes]) -> str:

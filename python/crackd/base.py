@@ -5,7 +5,7 @@ from __future__ import annotations
 import abc
 from typing import Any, Optional, Sequence
 
-from .arrays import flags, ints, sized
+from .arrays import flags, ints, items_of
 from .described import html_of, text_of
 from .errors import OutOfMemory, nothing_done
 from .layout import Layout
@@ -79,7 +79,8 @@ class AnyTable(Questions):
 
     def _row_words(self, keys: Any, payloads: Any) -> tuple[Any, Any]:
         """The keys as numbers, and the payloads as an array. Raises ValueError if they differ in length."""
-        keys, payloads = sized(keys), sized(payloads)
+        with nothing_done():
+            keys, payloads = items_of(keys, "keys"), items_of(payloads, "payloads")
         if len(keys) != len(payloads):
             raise ValueError(f"{len(keys)} keys and {len(payloads)} payloads")
         with nothing_done():
@@ -111,7 +112,9 @@ class AnyTable(Questions):
 
         If an update is refused, those before it are done: `done` of the error says how many.
         """
-        rows, keys, payloads = sized(rows), sized(keys), sized(payloads)
+        with nothing_done():
+            rows, keys = items_of(rows, "row numbers"), items_of(keys, "keys")
+            payloads = items_of(payloads, "payloads")
         if not len(rows) == len(keys) == len(payloads):
             raise ValueError(f"{len(rows)} row numbers, {len(keys)} keys and {len(payloads)} payloads")
         with nothing_done():

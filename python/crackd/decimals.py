@@ -300,11 +300,12 @@ def places_of_floats(floats: Any) -> Optional[int]:
 
 def are_near(floats: Any, decimals: int) -> Any:
     """Whether each float is so near to a decimal with these places that it surely stands for it."""
-    product = floats * float(10**decimals)
-    found = np.rint(product)
-    size = np.abs(found)
-    limit = np.maximum(np.minimum(size * NEAR, NEARNESS), size * 2.0**-52)
-    return (np.abs(product - found) <= limit) & (size <= MOST_FOUND)
+    with np.errstate(over="ignore", invalid="ignore"):
+        product = floats * float(10**decimals)
+        found = np.rint(product)
+        size = np.abs(found)
+        limit = np.maximum(np.minimum(size * NEAR, NEARNESS), size * 2.0**-52)
+        return (np.abs(product - found) <= limit) & (size <= MOST_FOUND)
 
 
 def places_of_one(number: Any) -> Optional[int]:

@@ -98,7 +98,8 @@ class Keys:
 
     @staticmethod
     def of_dtype(dtype: Any) -> "Keys":
-        """The keys for items of a numpy type. Raises TypeError if there are none."""
+        """The keys for items of a type of numpy or pandas. Raises TypeError if there are none."""
+        dtype = getattr(getattr(dtype, "categories", None), "dtype", dtype)
         found = type_of_numpy(dtype)
         if found.kind not in "uifM" or found.itemsize > 8:
             raise TypeError(f"keys of {dtype} are not supported")
@@ -426,6 +427,7 @@ def keys_for(
     sample: Any, key_type: Any = None, key_decimals: Optional[int] = None, zone: Any = None
 ) -> tuple[Keys, Any]:
     """The type of a table's keys by the options of an opening, and the sample in a form that has this type."""
+    sample = items_of(sample, "keys")
     if key_decimals is not None:
         sample = decimals_of(sample, checked_decimals(key_decimals, "key_decimals"), "keys")
     elif isinstance(sample, Scaled) and not isinstance(key_type, Keys):

@@ -12,7 +12,7 @@ import sys
 import tempfile
 from typing import IO, Any, AnyStr, Optional, Sequence
 
-from .arrays import sized, whole
+from .arrays import items_of, sized, whole
 from .base import MOST_PARTS, POLICIES, POLICY, parts_for
 from .client import Client, connect
 from .decimals import INTEGERS, PayloadType
@@ -211,6 +211,7 @@ def splits_of(
     if partitions is not None and not 1 <= whole(partitions, "partitions") <= most:
         raise ValueError(f"partitions must be 1 to {most}, not {partitions}")
     if splits is not None:
+        splits = items_of(splits, "splits")
         if partitions not in (None, len(splits) + 1):
             raise ValueError(f"{len(splits)} splits make {len(splits) + 1} partitions, not {partitions}")
         return [int(it) for it in keys.many(splits)]

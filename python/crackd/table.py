@@ -20,7 +20,7 @@ from .pool import processors, run_in_turn, run_side_by_side
 from .primitives import Answer, Steps
 from .progress import pieces_of, reporter
 from .routing import IN_SHARD, MOST_SHARDS, SHARD_SHIFT, Cut, Sharded, checked_splits, put_rows, shard_of
-from .rows import Row, row_of
+from .rows import row_of
 from .server import splits_of
 from .typed import Progress, RowNumbers, Self
 
