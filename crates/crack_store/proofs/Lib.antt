@@ -3,6 +3,7 @@ mod ClosingLemmas
 mod SplitLaws
 mod ClosedLaws
 mod OpeningLemmas
+mod OpenedLaws
 mod NextLemmas
 mod EdgeLemmas
 mod InsertLemmas

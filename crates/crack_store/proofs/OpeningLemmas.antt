@@ -14,7 +14,7 @@ use Rattle.crack_column.specs.Column.{Column, StillRemembersWith}
 use Rattle.crack_store.specs.declared.opening.Arrival.{Arrival}
 use Rattle.crack_store.specs.Blocks.{ChangesSides, KeepsRows}
 use Rattle.crack_store.specs.Openings.{arrival_handle, arrival_key, arrival_memory, IsKnown, KeepsPut}
-use Rattle.crack_store.proofs.BlockLemmas.{drop_after}
+use Rattle.crack_store.proofs.OpenedLaws.{opened}
 
 -- one more arrival is put in
 pub put_one : (xs : List Arrival) (i : ℕ) (d : Arrival) (was c c' : Column) (at n : ℕ) (h : Handle) (m : Memory) → i < length xs → h ≡ (get_or xs i d).handle → m ≡ arrival_memory (get_or xs i d) → n ≡ at + i → at + length xs ≤ length was.handles → c' ≡ record c { handles = set c.handles n h; remembered = set c.remembered n m } → StillRemembersWith h m c c' → c.handles ≡ paste was.handles at (map arrival_handle xs) i → KeepsPut (take i xs) was c → (c'.handles ≡ paste was.handles at (map arrival_handle xs) (i + 1)) × KeepsPut (take (i + 1) xs) was c'

@@ -34,8 +34,8 @@ AreSorted arrivals = IsNonDecreasingBy arrival_key arrivals
 abbrev pub IsKnown : List (Cell Row) → Arrival → Type 0
 IsKnown cells a = Agrees cells a.handle (arrival_memory a)
 
--- arrivals were put into the column: it has as many rows and the same room, and in any cells with which the arrivals agree
--- it remembers its rows as well as before
+-- arrivals were put into the column: it has as many rows and the same room, and in any cells with which the arrivals
+-- agree it remembers its rows as well as before
 pub record KeepsPut (arrivals : List Arrival) (old new : Column) : Type 0 where
   pub long : length new.handles ≡ length old.handles
   pub room : new.room ≡ old.room
@@ -65,18 +65,19 @@ opening_left v = take (v.to - v.end) v.arrivals.now
 abbrev pub opening_moved : Opening → ℕ
 opening_moved v = v.moved
 
--- the column has as many rows and the same room and remembers its rows, the arrivals are the same, and the count of moved
--- rows doesn't fall
+-- the column has as many rows and the same room and remembers its rows, the arrivals are the same, and the count of
+-- moved rows doesn't fall
 pub record KeepsOpening (v w : Opening) : Type 0 where
   pub rows : KeepsPut v.arrivals.now v.column w.column
   pub arrivals : w.arrivals ≡ v.arrivals
   pub moved : v.moved ≤ w.moved
 
--- the piece that begins at the first number and at the bound `low` is opened, and `rise` arrivals are left (`OpensPiece`)
+-- the piece that begins at the first number and at the bound `low` is opened, and `rise` arrivals are left
+-- (`OpensPiece`)
 abbrev pub Opens : Opening → ℕ → ℕ → ℕ → Opening → Type 0
 Opens = OpensPiece opening_rows opening_end opening_moved opening_left arrival_handle arrival_key KeepsOpening
 
--- the piece that begins at the mark is opened, and the bound rises by `rise`. Nothing is required if the mark's place is
--- after the end of that piece
+-- the piece that begins at the mark is opened, and the bound rises by `rise`. Nothing is required if the mark's place
+-- is after the end of that piece
 abbrev pub OpensAt : Opening → Mark → ℕ → Opening → Type 0
 OpensAt v m rise w = m.position ≤ v.end → Opens v m.position m.bound.0 rise w

@@ -25,12 +25,12 @@ module _ {V X : Type 0} (rows_of : V → List X) (from_of gap_of moved_of : V �
     pub few : moved_of w ≤ moved_of v + gap_of w
     pub also : Also v w
 
--- `V` is a pass that falls: its column's rows, where the hole begins, how many rows were moved, and the arrivals that are
--- left; an arrival has a row and a key. `Also` is what else holds from one step to the next
+-- `V` is a pass that falls: its column's rows, where the hole begins, how many rows were moved, and the arrivals that
+-- are left; an arrival has a row and a key. `Also` is what else holds from one step to the next
 module _ {V X A : Type 0} (rows_of : V → List X) (end_of moved_of : V → ℕ) (left_of : V → List A) (row : A → X) (key : A → ℕ) (Also : V → V → Type 0) where
   -- from `v` to `w` the piece that begins at the place `from` and the bound `low` is opened: the hole, which is now
-  -- smaller, comes before it, and the arrivals that aren't below `low` join it. `rise` arrivals are left. At most as many
-  -- rows are moved
+  -- smaller, comes before it, and the arrivals that aren't below `low` join it. `rise` arrivals are left. At most as
+  -- many rows are moved
   pub record OpensPiece (v : V) (from low rise : ℕ) (w : V) : Type 0 where
     pub hole : List X
     pub piece : List X

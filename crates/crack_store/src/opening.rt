@@ -1,6 +1,6 @@
-//! Opens the pieces of a column for arrivals, from the highest piece down. A hole behind the next piece has as many rows
-//! as arrivals are left. The piece passes the hole, of which only as many rows move as the hole keeps or the piece has,
-//! and gets its arrivals behind it.
+//! Opens the pieces of a column for arrivals, from the highest piece down. A hole behind the next piece has as many
+//! rows as arrivals are left. The piece passes the hole, of which only as many rows move as the hole keeps or the piece
+//! has, and gets its arrivals behind it.
 //!
 //! ```text
 //! before      5 3 | 12 17 | 28 21 25 (· · ·)        arrivals 4, 14 and 29; · is any row
