@@ -1,11 +1,11 @@
 -- A column whose pieces are opened for arrivals, from the highest piece down.
-use Rattle.std.proofs.Common.{◌≡◌, ℕ, zero, suc, ◌+◌, ◌-◌, ◌*◌, ◌<◌, ◌≤◌, min, List, [], ◌∷◌, ◌++◌, map, length, take, drop, get_or, refl, sym, ap, subst, ◌∙◌, inl, inr, arith}
+use Rattle.std.proofs.Common.{◌≡◌, ℕ, zero, suc, ◌+◌, ◌-◌, ◌*◌, ◌<◌, ◌≤◌, min, List, [], ◌∷◌, ◌++◌, map, length, take, drop, get_or, refl, sym, ap, subst, ◌∙◌, arith}
 use Rattle.std.specs.List.{All, between}
 use Rattle.std.proofs.Math.Nat.{mul-le-mul_left}
 use Rattle.std.specs.List.Sorted.{IsPermutation}
-use Rattle.std.proofs.lemmas.List.{append_assoc, append-nil, length-append, length-map, map-append, length-take-le, take-append-drop, take_at, drop_at, nil_from_length}
-use Rattle.std.proofs.lemmas.List.Elements.{All-nil, All-cons, All-append, All-head, All-tail, All-weaker, All-map}
-use Rattle.std.proofs.lemmas.List.Sorted.{IsPermutation-refl, IsPermutation-sym, IsPermutation-trans, IsPermutation-append, IsPermutation-append_left, IsPermutation-append_right, IsPermutation-append_comm, All-permutation, length_permutation}
+use Rattle.std.proofs.lemmas.List.{append_assoc, append-nil, length-append, length-map, map-append, length-take-le, take-append-drop, take_at, drop_at}
+use Rattle.std.proofs.lemmas.List.Elements.{All-nil, All-cons, All-head, All-tail, All-weaker, All-map}
+use Rattle.std.proofs.lemmas.List.Sorted.{IsPermutation-refl, IsPermutation-trans, IsPermutation-append, IsPermutation-append_left, IsPermutation-append_right, IsPermutation-append_comm, All-permutation, length_permutation}
 use Rattle.crack_index.specs.declared.mark.Mark.{Mark}
 use Rattle.crack_index.specs.Marks.{InOrder, bounds_of}
 use Rattle.crack_index.specs.Raises.{Raises, higher}
@@ -108,6 +108,8 @@ module _ {V X A : Type 0} (rows_of : V → List X) (end_of moved_of : V → ℕ)
     pub bounds : bounds_of ms' ≡ bounds_of ms
     pub few : moved_of w ≤ moved_of v + length ms * length (left_of v)
     pub also : Also v w
+    pub shorter : length front' ≤ length front
+    pub beyond : 0 < length (left_of w) → All (λ (m : Mark). length front' + length (left_of w) ≤ m.position) ms'
 
   -- a bound at or below the mark
   opened_low : (v w : V) (front piece behind : List X) (m : Mark) (rise bound place : ℕ) → (one : IsOpen v w front piece behind m rise) → bound ≤ m.bound.0 → place ≤ length front → Splits key bound place ((front ++ piece) ++ behind) → Splits key bound place (front ++ (one.piece' ++ behind))
@@ -161,11 +163,13 @@ module _ {V X A : Type 0} (rows_of : V → List X) (end_of moved_of : V → ℕ)
         bounds = ap (λ bs. m.bound.0 ∷ bs) all.bounds;
         few = omega (arith, one.few, one.rise_is, arrived', length-append (left_of w) one.come, all.few, counted);
         also = Also-trans v w x one.also all.also;
+        shorter = omega (arith, all.shorter, length-append front piece);
+        beyond = λ some. All-cons (λ (k : Mark). length all.front' + length (left_of x) ≤ k.position) (higher rise m) ms' (omega (arith, place_is, one.rise_is, arrived, come_long, all.shorter)) (all.beyond some);
       }
 
   -- where nothing has yet to come
-  opened_none : (v : V) (front hole behind : List X) (ms : List Mark) → OpenAt v front hole behind → All (λ (k : Mark). Splits key k.bound.0 (k.position - length (left_of v)) (front ++ behind)) ms → All (λ (k : Mark). All (λ x. key x < k.bound.0) (left_of v)) ms → All (λ (k : Mark). length (left_of v) ≤ k.position) ms → IsOpened v v front behind ms ms
-  opened_none v front hole behind ms at' splits left raised = record {
+  opened_none : (v : V) (front hole behind : List X) (ms : List Mark) → OpenAt v front hole behind → All (λ (k : Mark). Splits key k.bound.0 (k.position - length (left_of v)) (front ++ behind)) ms → All (λ (k : Mark). All (λ x. key x < k.bound.0) (left_of v)) ms → All (λ (k : Mark). length (left_of v) ≤ k.position) ms → (0 < length (left_of v) → All (λ (k : Mark). length front + length (left_of v) ≤ k.position) ms) → IsOpened v v front behind ms ms
+  opened_none v front hole behind ms at' splits left raised beyond = record {
     front' = front;
     hole' = hole;
     passed = [];
@@ -180,6 +184,8 @@ module _ {V X A : Type 0} (rows_of : V → List X) (end_of moved_of : V → ℕ)
     bounds = refl;
     few = omega arith;
     also = Also-refl v;
+    shorter = omega arith;
+    beyond = beyond;
   }
 
   -- a walk on which no mark may rise changes nothing
@@ -202,10 +208,10 @@ module _ {V X A : Type 0} (rows_of : V → List X) (end_of moved_of : V → ℕ)
 
   pub opened : (ms : List Mark) (most last : ℕ) (ms' : List Mark) (v w : V) (front hole behind : List X) → OpenAt v front hole behind → most ≡ length (left_of v) → All (λ m. m.position ≤ length front) ms → Falling ms → All (λ (m : Mark). Splits key m.bound.0 m.position (front ++ behind)) ms → Raises Opens most ms v ms' w last → IsOpened v w front behind ms ms'
   opened ms most last ms' v w front hole behind h most_is inside falling splits (Raises.done n x) =
-      opened_none x front hole behind [] h (All-nil (λ (k : Mark). Splits key k.bound.0 (k.position - length (left_of x)) (front ++ behind))) (All-nil (λ (k : Mark). All (λ x. key x < k.bound.0) (left_of v))) (All-nil (λ (k : Mark). length (left_of x) ≤ k.position))
+      opened_none x front hole behind [] h (All-nil (λ (k : Mark). Splits key k.bound.0 (k.position - length (left_of x)) (front ++ behind))) (All-nil (λ (k : Mark). All (λ x. key x < k.bound.0) (left_of v))) (All-nil (λ (k : Mark). length (left_of x) ≤ k.position)) (λ some. All-nil (λ (k : Mark). length front + length (left_of x) ≤ k.position))
   opened ms most last ms' v w front hole behind h most_is inside falling splits (Raises.stays m ns ns' x y l rest) =
       let same = not_raised ns 0 l ns' x y refl rest in
-      let none = opened_none x front hole behind (m ∷ ns) h (λ k e j. subst (λ (p : ℕ). Splits key (get_or (m ∷ ns) k e).bound.0 p (front ++ behind)) (omega (arith, most_is)) (splits k e j)) (λ k e j i d i_in. absurd (omega (arith, most_is, i_in))) (λ k e j. omega (arith, most_is)) in
+      let none = opened_none x front hole behind (m ∷ ns) h (λ k e j. subst (λ (p : ℕ). Splits key (get_or (m ∷ ns) k e).bound.0 p (front ++ behind)) (omega (arith, most_is)) (splits k e j)) (λ k e j i d i_in. absurd (omega (arith, most_is, i_in))) (λ k e j. omega (arith, most_is)) (λ some. absurd (omega (arith, most_is, some))) in
       subst (λ (t : V). IsOpened x t front behind (m ∷ ns) (m ∷ ns')) (sym same.0) (subst (λ (ks : List Mark). IsOpened x x front behind (m ∷ ns) (m ∷ ks)) (sym same.1) none)
   opened ms most last ms' v w front hole behind h most_is inside falling splits (Raises.goes_on n rise l m ns ns' x y z some told rest) =
       let before = All-head (λ (k : Mark). k.position ≤ length front) m ns inside in

@@ -1,5 +1,5 @@
 -- One step of the pass that opens pieces, from the moves that make it.
-use Rattle.std.proofs.Common.{◌≡◌, ℕ, ◌+◌, ◌-◌, ◌<◌, ◌≤◌, List, ◌++◌, get_or, set, length, map, take, drop, refl, sym, ap, subst, ◌∙◌, arith}
+use Rattle.std.proofs.Common.{◌≡◌, ℕ, ◌+◌, ◌-◌, ◌<◌, ◌≤◌, List, ◌++◌, get_or, set, length, map, take, drop, sym, ap, ◌∙◌, arith}
 use Rattle.std.specs.List.{All, between}
 use Rattle.std.specs.List.Sorted.{IsPermutation}
 use Rattle.std.proofs.Math.Seq.{paste, take-add}
@@ -7,14 +7,12 @@ use Rattle.std.proofs.lemmas.List.{append_assoc, length-append, length-map, leng
 use Rattle.std.proofs.lemmas.List.Elements.{All-take, All-drop}
 use Rattle.std.proofs.lemmas.List.Edits.{paste_more, length-between}
 use Rattle.std.proofs.lemmas.List.Sorted.{IsPermutation-append_left, length_permutation}
-use Rattle.crack_arena.specs.Arena.{Cell, Handle}
+use Rattle.crack_arena.specs.Arena.{Handle}
 use Rattle.crack_arena.specs.Memories.{Memory}
-use Rattle.crack_row.specs.declared.Row.{Row}
 use Rattle.crack_column.specs.Column.{Column, StillRemembersWith}
 use Rattle.crack_store.specs.declared.opening.Arrival.{Arrival}
 use Rattle.crack_store.specs.Blocks.{ChangesSides, KeepsRows}
-use Rattle.crack_store.specs.Openings.{arrival_handle, arrival_key, arrival_memory, IsKnown, KeepsPut}
-use Rattle.crack_store.proofs.OpenedLaws.{opened}
+use Rattle.crack_store.specs.Openings.{arrival_handle, arrival_memory, IsKnown, KeepsPut}
 
 -- one more arrival is put in
 pub put_one : (xs : List Arrival) (i : ℕ) (d : Arrival) (was c c' : Column) (at n : ℕ) (h : Handle) (m : Memory) → i < length xs → h ≡ (get_or xs i d).handle → m ≡ arrival_memory (get_or xs i d) → n ≡ at + i → at + length xs ≤ length was.handles → c' ≡ record c { handles = set c.handles n h; remembered = set c.remembered n m } → StillRemembersWith h m c c' → c.handles ≡ paste was.handles at (map arrival_handle xs) i → KeepsPut (take i xs) was c → (c'.handles ≡ paste was.handles at (map arrival_handle xs) (i + 1)) × KeepsPut (take (i + 1) xs) was c'

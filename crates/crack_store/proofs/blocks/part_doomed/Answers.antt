@@ -1,6 +1,6 @@
-use Rattle.std.proofs.Common.{◌≡◌, ℕ, ◌-◌, ◌<◌, true, false, get_or, refl, sym, ap, subst, inl, inr, arith}
+use Rattle.std.proofs.Common.{◌≡◌, ℕ, true, false, get_or, refl, sym, ap, subst, inl, inr, arith}
 use Rattle.std.proofs.lemmas.Bool.{cases_lt, lt-ltb, le-ltb, true≢false}
-use Rattle.crack_arena.specs.Arena.{Handle, no_handle, times, slots}
+use Rattle.crack_arena.specs.Arena.{no_handle, times, slots}
 use Rattle.crack_column.specs.Column.{Column}
 use Rattle.crack_store.specs.Blocks.{is_among}
 use Rattle.crack_store.proofs.BlockLemmas.{ArePartedTo, part_begins, part_stays, part_leaves, parted, KeepsRows-swapped}

@@ -1,4 +1,4 @@
-use Rattle.std.proofs.Common.{◌≤◌, ◌-◌, refl, arith}
+use Rattle.std.proofs.Common.{◌-◌, refl, arith}
 use Rattle.crack_store.proofs.ClosingLemmas.{KeepsRows-trans, closed_over}
 use Rattle.crack_store.proofs.closing.close_piece.Goals as goal
 

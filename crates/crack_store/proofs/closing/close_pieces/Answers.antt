@@ -1,5 +1,4 @@
 use Rattle.std.proofs.Common.{ℕ, refl, subst}
-use Rattle.crack_store.specs.declared.closing.Closing.{Closing}
 use Rattle.crack_store.specs.Closings.{Closes}
 use Rattle.crack_store.proofs.ClosingLemmas.{closed_pieces}
 use Rattle.crack_store.proofs.closing.close_pieces.Goals as goal

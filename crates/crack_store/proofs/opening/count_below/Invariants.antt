@@ -1,4 +1,4 @@
-use Rattle.std.proofs.Common.{◌≡◌, ℕ, ◌<◌, ◌≤◌, get_or}
+use Rattle.std.proofs.Common.{ℕ, ◌<◌, ◌≤◌, get_or}
 use Rattle.crack_store.specs.declared.opening.Arrival.{Arrival}
 use Rattle.crack_store.proofs.opening.count_below.Given as goal
 
