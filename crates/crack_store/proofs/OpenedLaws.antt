@@ -1,16 +1,17 @@
 -- A column whose pieces are opened for arrivals, from the highest piece down.
-use Rattle.std.proofs.Common.{◌≡◌, ℕ, zero, suc, ◌+◌, ◌-◌, ◌*◌, ◌<◌, ◌≤◌, min, List, [], ◌∷◌, ◌++◌, map, length, take, drop, get_or, refl, sym, ap, subst, ◌∙◌, arith}
+use Rattle.std.proofs.Common.{◌≡◌, ℕ, zero, suc, ◌+◌, ◌-◌, ◌*◌, ◌<◌, ◌≤◌, min, List, [], ◌∷◌, ◌++◌, map, length, take, drop, get_or, refl, sym, ap, subst, ◌∙◌, inl, inr, arith}
 use Rattle.std.specs.List.{All, between}
 use Rattle.std.proofs.Math.Nat.{mul-le-mul_left}
 use Rattle.std.specs.List.Sorted.{IsPermutation}
-use Rattle.std.proofs.lemmas.List.{append_assoc, append-nil, length-append, length-map, map-append, length-take-le, take-append-drop, take_at, drop_at}
+use Rattle.std.proofs.lemmas.List.{append_assoc, append-nil, length-append, length-map, map-append, length-take-le, take-append-drop, take_at, drop_at, nil_from_length}
+use Rattle.std.proofs.lemmas.Bool.{cases_lt}
 use Rattle.std.proofs.lemmas.List.Elements.{All-nil, All-cons, All-head, All-tail, All-weaker, All-map}
 use Rattle.std.proofs.lemmas.List.Sorted.{IsPermutation-refl, IsPermutation-trans, IsPermutation-append, IsPermutation-append_left, IsPermutation-append_right, IsPermutation-append_comm, All-permutation, length_permutation}
 use Rattle.crack_index.specs.declared.mark.Mark.{Mark}
 use Rattle.crack_index.specs.Marks.{InOrder, bounds_of}
 use Rattle.crack_index.specs.Raises.{Raises, higher}
 use Rattle.crack_store.specs.Passes.{OpensPiece}
-use Rattle.crack_store.proofs.SplitLaws.{All-left, All-right, Splits, Splits-low_grown, Splits-high_grown}
+use Rattle.crack_store.proofs.SplitLaws.{All-left, All-right, Splits, Splits-high, Splits-low_grown, Splits-high_grown}
 
 -- the marks fall: each mark has a higher bound, and no lower place, than every later one
 abbrev pub Falling : List Mark → Type 0
@@ -21,10 +22,20 @@ module _ {X : Type 0} where
   regrouped : (front piece come come' front' passed piece' : List X) → IsPermutation (front ++ come') (front' ++ passed) → IsPermutation (piece ++ come) piece' → IsPermutation ((front ++ piece) ++ (come' ++ come)) (front' ++ (passed ++ piece'))
   regrouped front piece come come' front' passed piece' rest grown =
       let turned : IsPermutation (piece ++ (come' ++ come)) (come' ++ (piece ++ come)) =
-          rw (append_assoc piece come' come, append_assoc come' piece come) at (IsPermutation-append_left come (piece ++ come') (come' ++ piece) (IsPermutation-append_comm piece come')) in
+      rw (append_assoc piece come' come, append_assoc come' piece come) at (IsPermutation-append_left come (piece ++ come') (come' ++ piece) (IsPermutation-append_comm piece come')) in
       let first : IsPermutation (front ++ (piece ++ (come' ++ come))) (front ++ (come' ++ (piece ++ come))) = IsPermutation-append_right front (piece ++ (come' ++ come)) (come' ++ (piece ++ come)) turned in
       let second : IsPermutation ((front ++ come') ++ (piece ++ come)) ((front' ++ passed) ++ piece') = IsPermutation-append (front ++ come') (front' ++ passed) (piece ++ come) piece' rest grown in
       rw (append_assoc front piece (come' ++ come), ← append_assoc front' passed piece') (IsPermutation-trans (front ++ (piece ++ (come' ++ come))) (front ++ (come' ++ (piece ++ come))) ((front' ++ passed) ++ piece') first (rw (append_assoc front come' (piece ++ come)) at second))
+
+module _ {X : Type 0} where
+  -- what was left, and the rows that came
+  put_together : (front left left' come front' passed : List X) → IsPermutation left (left' ++ come) → IsPermutation (front ++ come) (front' ++ passed) → IsPermutation (front ++ left) (front' ++ (left' ++ passed))
+  put_together front left left' come front' passed arrived moved =
+      let one : IsPermutation (front ++ left) (front ++ (come ++ left')) = IsPermutation-append_right front left (come ++ left') (IsPermutation-trans left (left' ++ come) (come ++ left') arrived (IsPermutation-append_comm left' come)) in
+      let two : IsPermutation ((front ++ come) ++ left') ((front' ++ passed) ++ left') = IsPermutation-append_left left' (front ++ come) (front' ++ passed) moved in
+      let three : IsPermutation (front' ++ (passed ++ left')) (front' ++ (left' ++ passed)) = IsPermutation-append_right front' (passed ++ left') (left' ++ passed) (IsPermutation-append_comm passed left') in
+      let two' : IsPermutation (front ++ (come ++ left')) (front' ++ (passed ++ left')) = rw (append_assoc front come left', append_assoc front' passed left') at two in
+      IsPermutation-trans (front ++ left) (front ++ (come ++ left')) (front' ++ (left' ++ passed)) one (IsPermutation-trans (front ++ (come ++ left')) (front' ++ (passed ++ left')) (front' ++ (left' ++ passed)) two' three)
 
 module _ {V X A : Type 0} (rows_of : V → List X) (end_of moved_of : V → ℕ) (arrivals_of : V → List A) (row : A → X) (key_of : A → ℕ) (Also : V → V → Type 0) (Also-refl : (v : V) → Also v v) (Also-trans : (u v w : V) → Also u v → Also v w → Also u w) (key : X → ℕ) where
   -- the rows that are left
@@ -217,5 +228,47 @@ module _ {V X A : Type 0} (rows_of : V → List X) (end_of moved_of : V → ℕ)
       let before = All-head (λ (k : Mark). k.position ≤ length front) m ns inside in
       let front_is : take m.position front ++ drop m.position front ≡ front = take-append-drop m.position front in
       let go = λ (at' : OpenAt x (take m.position front ++ drop m.position front) hole behind) (splits' : All (λ (k : Mark). Splits key k.bound.0 k.position ((take m.position front ++ drop m.position front) ++ behind)) (m ∷ ns)).
-          step_on x y z (take m.position front) (drop m.position front) hole behind m ns ns' rise n at' (sym (length-take-le m.position front before)) most_is falling splits' told (λ f h' b at'' most' inside' falling' splits''. opened ns (min rise n) l ns' y z f h' b at'' most' inside' falling' splits'' rest) in
+      step_on x y z (take m.position front) (drop m.position front) hole behind m ns ns' rise n at' (sym (length-take-le m.position front before)) most_is falling splits' told (λ f h' b at'' most' inside' falling' splits''. opened ns (min rise n) l ns' y z f h' b at'' most' inside' falling' splits'' rest) in
       subst (λ (f : List X). IsOpened x z f behind (m ∷ ns) (higher (min rise n) m ∷ ns')) front_is (go (subst (λ (f : List X). OpenAt x f hole behind) (sym front_is) h) (subst (λ (f : List X). All (λ (k : Mark). Splits key k.bound.0 k.position (f ++ behind)) (m ∷ ns)) (sym front_is) splits))
+
+  -- the arrivals that are left are put into the hole
+  put_left : (bound place : ℕ) (front left passed : List X) → (0 < length left → length front + length left ≤ place) → All (λ x. key x < bound) left → Splits key bound (place - length left) (front ++ passed) → Splits key bound place (front ++ (left ++ passed))
+  put_left bound place front left passed beyond under s = elim (cases_lt 0 (length left)) [
+    | inl some ↦
+        let far : ℕ = place - length left - length front in
+        let past = beyond some in
+        let high = Splits-high key bound (place - length left) far front [] left passed (omega (arith, past)) under s in
+        subst (λ (k : ℕ). Splits key bound k (front ++ (left ++ passed))) (omega (arith, past)) high
+    | inr none ↦
+        let nothing : left ≡ [] = nil_from_length left (omega (arith, none)) in
+        let same : place - length left ≡ place = omega (arith, none) in
+        subst (λ (xs : List X). Splits key bound place (front ++ (xs ++ passed))) (sym nothing) (subst (λ (k : ℕ). Splits key bound k (front ++ passed)) same s)
+  ]
+
+  -- all pieces are opened, and the arrivals that are left are put into the hole
+  pub record IsOpenedWhole (v w : V) (front rows : List X) (ms ms' : List Mark) : Type 0 where
+    pub permuted : IsPermutation (front ++ left_of v) rows
+    pub obeyed : All (λ (m : Mark). Splits key m.bound.0 m.position rows) ms'
+    pub bounds : bounds_of ms' ≡ bounds_of ms
+    pub few : moved_of w ≤ moved_of v + length ms * length (left_of v)
+    pub also : Also v w
+
+  pub opened_whole : (ms : List Mark) (most last : ℕ) (ms' : List Mark) (v w : V) (front hole rows : List X) → OpenAt v front hole [] → most ≡ length (left_of v) → All (λ m. m.position ≤ length front) ms → Falling ms → All (λ (m : Mark). Splits key m.bound.0 m.position front) ms → Raises Opens most ms v ms' w last → rows ≡ take (end_of w) (rows_of w) ++ (left_of w ++ drop (end_of w + length (left_of w)) (rows_of w)) → IsOpenedWhole v w front rows ms ms'
+  opened_whole ms most last ms' v w front hole rows h most_is inside falling splits walk rows_are =
+      whole_of (opened ms most last ms' v w front hole [] h most_is inside falling (λ k e j. subst (λ (f : List X). Splits key (get_or ms k e).bound.0 (get_or ms k e).position f) (sym (append-nil front)) (splits k e j)) walk)
+    where
+      whole_of : IsOpened v w front [] ms ms' → IsOpenedWhole v w front rows ms ms'
+      whole_of all =
+          let left = left_of w in
+          let at' = all.at' in
+          let first : take (end_of w) (rows_of w) ≡ all.front' = ap (take (end_of w)) at'.rows_are ∙ take_at all.front' (all.hole' ++ (all.passed ++ [])) (end_of w) (sym at'.end_is) in
+          let whole : rows_of w ≡ (all.front' ++ all.hole') ++ (all.passed ++ []) = at'.rows_are ∙ sym (append_assoc all.front' all.hole' (all.passed ++ [])) in
+          let rest : drop (end_of w + length left) (rows_of w) ≡ all.passed = ap (drop (end_of w + length left)) whole ∙ drop_at (all.front' ++ all.hole') (all.passed ++ []) (end_of w + length left) (omega (arith, at'.end_is, at'.gap_is, length-append all.front' all.hole')) ∙ append-nil all.passed in
+          let now : rows ≡ all.front' ++ (left ++ all.passed) = rows_are ∙ ap (λ xs. xs ++ (left ++ drop (end_of w + length left) (rows_of w))) first ∙ ap (λ xs. all.front' ++ (left ++ xs)) rest in
+          record {
+            permuted = subst (λ (xs : List X). IsPermutation (front ++ left_of v) xs) (sym now) (put_together front (left_of v) left all.come all.front' all.passed all.arrived all.permuted);
+            obeyed = λ k e j. subst (λ (xs : List X). Splits key (get_or ms' k e).bound.0 (get_or ms' k e).position xs) (sym now) (put_left (get_or ms' k e).bound.0 (get_or ms' k e).position all.front' left all.passed (λ some. all.beyond some k e j) (all.left k e j) (subst (λ (xs : List X). Splits key (get_or ms' k e).bound.0 ((get_or ms' k e).position - length left) (all.front' ++ xs)) (append-nil all.passed) (all.obeyed k e j)));
+            bounds = all.bounds;
+            few = all.few;
+            also = all.also;
+          }

@@ -1,16 +1,19 @@
 -- What private clauses alone cite.
 -- The pass that opens a column's pieces for arrivals, from the highest down. Its visitor is `v` before a bound and `w`
 -- after it.
-use Rattle.std.specs.Prelude.{◌≡◌, ℕ, ◌+◌, ◌-◌, ◌≤◌, List, length, take}
+use Rattle.std.specs.Prelude.{◌≡◌, ℕ, ◌+◌, ◌-◌, ◌*◌, ◌≤◌, List, ◌++◌, length, map, take}
 use Rattle.std.specs.List.{All}
-use Rattle.std.specs.List.Sorted.{IsNonDecreasingBy}
+use Rattle.std.specs.List.Sorted.{IsNonDecreasingBy, IsPermutation}
 use Rattle.crack_row.specs.declared.Row.{Row}
 use Rattle.crack_arena.specs.Arena.{Cell, Handle}
+use Rattle.crack_arena.specs.Rows.{key_at}
 use Rattle.crack_arena.specs.Memories.{Memory, Agrees, Remembers}
 use Rattle.crack_column.specs.Column.{Column}
 use Rattle.crack_index.specs.declared.mark.Mark.{Mark}
-use Rattle.crack_state.specs.State.{greatest}
+use Rattle.crack_index.specs.Marks.{Rising, bounds_of}
+use Rattle.crack_state.specs.State.{IsObeyed, greatest}
 use Rattle.crack_store.specs.Passes.{OpensPiece}
+use Rattle.crack_store.specs.declared.inside.Inside.{Inside}
 use Rattle.crack_store.specs.declared.opening.Arrival.{Arrival}
 use Rattle.crack_store.specs.declared.opening.Opening.{Opening}
 
@@ -81,3 +84,27 @@ Opens = OpensPiece opening_rows opening_end opening_moved opening_left arrival_h
 -- is after the end of that piece
 abbrev pub OpensAt : Opening → Mark → ℕ → Opening → Type 0
 OpensAt v m rise w = m.position ≤ v.end → Opens v m.position m.bound.0 rise w
+
+-- the column's last rows are a hole, one for each arrival, and the marks divide the rows before it. The arrivals are
+-- sorted, by the keys of their rows, and the count of moved rows is one of a counter
+pub record IsOpenable (p : Inside) (arrivals : List Arrival) : Type 0 where
+  pub enough : length arrivals ≤ length p.column.handles
+  pub sorted : AreSorted arrivals
+  pub keyed : All (λ (a : Arrival). key_at p.arena.cells a.handle ≡ a.key) arrivals
+  pub obeyed : IsObeyed p.index.marks (map (key_at p.arena.cells) (take (length p.column.handles - length arrivals) p.column.handles))
+  pub rising : Rising p.index.marks
+  pub small : p.tally.moved ≤ greatest
+
+-- from `p` to `q` all pieces were opened for the arrivals, which took the places of the hole: the column has the rows
+-- before the hole and the arrivals, and the marks divide them. The bounds are the same; only column, index and the count
+-- of moved rows change. That count grows by at most the number of arrivals for each bound
+pub record OpensPieces (p q : Inside) (arrivals : List Arrival) : Type 0 where
+  pub same : q ≡ record p { column = q.column; index = q.index; tally = record p.tally { moved = q.tally.moved } }
+  pub permuted : IsPermutation (take (length p.column.handles - length arrivals) p.column.handles ++ map arrival_handle arrivals) q.column.handles
+  pub obeyed : IsObeyed q.index.marks (map (key_at p.arena.cells) q.column.handles)
+  pub rising : Rising q.index.marks
+  pub bounds : bounds_of q.index.marks ≡ bounds_of p.index.marks
+  pub keeps : KeepsPut arrivals p.column q.column
+  pub rises : p.tally.moved ≤ q.tally.moved
+  pub few : q.tally.moved ≤ p.tally.moved + length p.index.marks * length arrivals
+  pub small : q.tally.moved ≤ greatest

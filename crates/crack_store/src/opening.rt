@@ -8,10 +8,11 @@
 //! after       5 3 4 | 12 17 14 | 25 28 21 29
 //! ```
 ghost use Rattle.std.specs.Prelude.{◌≡◌, ◌-◌, ◌<◌, ◌≤◌, ◌++◌, ℕ, length, map, take, drop, slice_index_or};
-ghost use Rattle.crack_store.specs.Openings.{AreSorted, KeepsPut, Opens, IsOpeningReady, arrival_handle};
+ghost use Rattle.crack_store.specs.Openings.{AreSorted, IsOpenable, IsOpeningReady, KeepsPut, Opens, OpensPieces, arrival_handle};
 ghost use Rattle.crack_store.specs.declared.opening.Arrival.{Arrival};
 
 use crate::blocks::exchange_sides;
+use crate::inside::Inside;
 use crack_arena::{Handle, Remembered};
 use crack_column::CrackerColumn;
 use crack_index::{Mark, Raiser};
@@ -58,6 +59,35 @@ pub(crate) fn open_piece(opening: &mut Opening, from: usize, low: KeyNumber) -> 
     opening.to = middle - (end - from);
     opening.moved = opening.moved.saturating_add(moved as u64);
     next
+}
+
+/// Opens all pieces of the column for the arrivals, and puts each into its piece. The column's last rows are the hole,
+/// one for each arrival. Each bound moves up to the new end of its piece. O(arrivals + bounds); in each piece as many
+/// rows move as arrivals are below it, or as the piece has if they are fewer.
+pub(crate) fn open_pieces(inside: &mut Inside, arrivals: &[Arrival])
+    requires { IsOpenable inside.old arrivals.now }
+    ensures { OpensPieces inside.old inside.new arrivals.now }
+{
+    let to = inside.column.len();
+    let left = arrivals.len();
+    let mut opening = Opening {
+        column: inside.column.take(),
+        arrivals,
+        end: to - left,
+        to,
+        moved: inside.tally.moved,
+    };
+    inside.index.raise_each(left, &mut opening);
+    let Opening {
+        mut column,
+        arrivals,
+        end,
+        to,
+        moved,
+    } = opening;
+    put_arrivals(&mut column, to, &arrivals[..to - end]);
+    inside.column = column;
+    inside.tally.moved = moved;
 }
 
 /// How many of the first `left` arrivals are below the bound. O(1) for each that isn't.
