@@ -29,12 +29,6 @@ class ManyRows(unittest.TestCase):
             self.assertEqual(table.count(), 0)
         self.assertRaises(crackd.Refused, crackd.Table, cells=16_777_216)
 
-    def test_a_history_has_no_limit_by_default(self):
-        for options, since in [({}, COMMANDS), ({"history": None}, COMMANDS), ({"history": COMMANDS - 1}, 1)]:
-            with self.subTest(options), crackd.Table(**options) as table:
-                table.insert_many(np.arange(COMMANDS), np.arange(COMMANDS))
-                self.assertEqual((table.checkpoint(), table.count()), (since, COMMANDS))
-
     @wants_program
     def test_a_history_of_a_server_has_no_limit_by_default(self):
         with crackd.serve(workers=1) as served, served.connect() as table:

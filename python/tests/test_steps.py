@@ -318,11 +318,12 @@ class Samples(unittest.TestCase):
 class Defaults(unittest.TestCase):
     """What a table has if nothing is said."""
 
-    def test_histories_are_emptied_after_a_million_commands_of_a_partition(self):
-        for rows, left in [(1_000_000, 1_000_000), (1_000_001, 1)]:
-            with crackd.Table() as table:
+    def test_histories_have_no_limit(self):
+        rows = 1_000_001
+        for options, left in [({}, rows), ({"history": None}, rows), ({"history": rows - 1}, 1)]:
+            with self.subTest(options), crackd.Table(**options) as table:
                 table.insert_many(np.arange(rows), np.arange(rows))
-                self.assertEqual((table.checkpoint(), table.checkpoint()), (left, 0))
+                self.assertEqual((table.checkpoint(), table.checkpoint(), table.count()), (left, 0, rows))
         with crackd.Table(history=100) as table:
             table.insert_many(range(250), range(250))
             self.assertEqual(table.checkpoint(), 50)
