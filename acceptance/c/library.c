@@ -409,14 +409,18 @@ static void check_openings(void) {
 
 /* A history has a limit only if one is given: then a checkpoint is made once it has as many entries. */
 static void check_histories(void) {
-    const uint64_t limits[2] = {CRACKD_NO_LIMIT, 1000}, commands[2] = {CRACKD_MOST_HISTORY + 1, 1001};
-    const uint64_t since[2] = {CRACKD_MOST_HISTORY + 1, 1};
+    enum { ROWS = 1000, CALLS = 1001 };
+    static uint64_t keys[ROWS], serials[ROWS];
+    static int64_t payloads[ROWS];
+    static uint32_t parts[ROWS];
+    const uint64_t limits[2] = {CRACKD_NO_LIMIT, CRACKD_MOST_HISTORY};
+    const uint64_t since[2] = {ROWS * CALLS, ROWS * CALLS - CRACKD_MOST_HISTORY};
     for (int k = 0; k < 2; k++) {
         crackd_handle handle = {0};
         uint64_t number = 9, refused = 0;
-        EXPECT(0, crackd_open(&handle, SPLITS, 0, limits[k], 1, CRACKD_MOST_LIFE));
-        for (uint64_t asked = 0; asked < commands[k]; asked++)
-            refused += crackd_count(&handle, CRACKD_AUTO, 0, 9, &number) != 0;
+        EXPECT(0, crackd_open(&handle, SPLITS, 0, limits[k], CRACKD_MOST_CELLS, CRACKD_MOST_LIFE));
+        for (int call = 0; call < CALLS; call++)
+            refused += crackd_insert_many(&handle, keys, ROWS, payloads, ROWS, parts, ROWS, serials, ROWS, &number) != 0;
         EXPECT(0, refused);
         EXPECT(0, crackd_checkpoint(&handle, 0, &number));
         EXPECT(true, number == since[k]);
