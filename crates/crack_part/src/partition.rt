@@ -1,5 +1,5 @@
 //! A partition: its commands and their replies.
-ghost use Rattle.std.specs.Prelude.{◌≡◌, ◌⊎◌, None, Some, ◌+◌, ◌<◌, ◌^◌, [], length, nat_le, if◌then◌else◌};
+ghost use Rattle.std.specs.Prelude.{◌≡◌, ◌⊎◌, ℕ, None, Some, ◌+◌, ◌<◌, ◌^◌, [], length, nat_le, if◌then◌else◌};
 ghost use Rattle.std.specs.Prelude.{true, false, IsFalse, IsOk, IfOk, IfErr, IfSome, OnErr, OnOk, Err};
 ghost use Rattle.crack_row.specs.Commands.{change_of, key_of, range_of};
 ghost use Rattle.crack_row.specs.Replies.{IsFlat};
@@ -196,6 +196,7 @@ impl Partition {
         ensures unlimited { self.now.limits.history ≡ NO_LIMIT → (length : ℕ) →
             result ≡ Some (Refusal.HistoryFull length) → ⊥ }
     {
+        self.recall_invariant();
         if let Err(refusal) = self.may_keep(command) {
             return Some(refusal);
         }
