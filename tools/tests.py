@@ -14,6 +14,7 @@ import concurrent.futures
 import os
 import random
 import re
+import shutil
 import subprocess
 import sys
 import tempfile
@@ -84,6 +85,17 @@ class Step(threading.Thread):
         return self
 
 
+def all_steps(program):
+    """Runs all tests of a program, under the name that its texts have. Returns the steps that have ended."""
+    with tempfile.TemporaryDirectory(prefix="crackd-tests-") as room:
+        named = shutil.copy2(program, os.path.join(room, build.PROGRAM))
+        os.environ["CRACKD"] = named
+        package = Step("package", [sys.executable, ACCEPTANCE / "package.py", named], is_beside=True)
+        cases = Step("cases", [sys.executable, ACCEPTANCE / "run_cases.py", named]).ended()
+        checks = Step("checks", [sys.executable, ACCEPTANCE / "run_checks.py"]).ended()
+        return [cases, checks, package.ended()]
+
+
 def main(words):
     if words not in ([], ["--all"]):
         sys.exit(__doc__)
@@ -96,11 +108,7 @@ def main(words):
     began = time.monotonic()
     program = build_all()
     took = [f"building {time.monotonic() - began:.0f}"]
-    os.environ["CRACKD"] = str(program)
-    package = Step("package", [sys.executable, ACCEPTANCE / "package.py", program], is_beside=True)
-    cases = Step("cases", [sys.executable, ACCEPTANCE / "run_cases.py", program]).ended()
-    checks = Step("checks", [sys.executable, ACCEPTANCE / "run_checks.py"]).ended()
-    steps = [cases, checks, package.ended()]
+    steps = all_steps(program)
     took += [f"{it.name} {it.seconds:.0f}" for it in steps]
     print(f"tests: seconds on {len(os.sched_getaffinity(0))} processors: {', '.join(took)}")
     passed, failed, skipped = (sum(getattr(it, name) for it in steps) for name in ("passed", "failed", "skipped"))
