@@ -53,8 +53,8 @@ module _ {X : Type 0} where
   pub drop_after : (front part behind : List X) (to : ℕ) → to ≡ length front + length part → drop to (front ++ (part ++ behind)) ≡ behind
   drop_after front part behind to to_is = ap (drop to) (sym (append_assoc front part behind)) ∙ drop_at (front ++ part) behind to (omega (arith, to_is, length-append front part))
 
-  -- the list `was` has two blocks of this length, one from `from` on and the other up to `to`, and in `now` the first `i`
-  -- rows of each are exchanged
+  -- the list `was` has two blocks of this length, one from `from` on and the other up to `to`, and in `now` the first
+  -- `i` rows of each are exchanged
   pub record IsExchangedTo (from count to : ℕ) (was now : List X) (i : ℕ) : Type 0 where
     pub front : List X
     pub one : List X

@@ -96,8 +96,8 @@ pub record IsOpenable (p : Inside) (arrivals : List Arrival) : Type 0 where
   pub small : p.tally.moved ≤ greatest
 
 -- from `p` to `q` all pieces were opened for the arrivals, which took the places of the hole: the column has the rows
--- before the hole and the arrivals, and the marks divide them. The bounds are the same; only column, index and the count
--- of moved rows change. That count grows by at most the number of arrivals for each bound
+-- before the hole and the arrivals, and the marks divide them. The bounds are the same; only column, index and the
+-- count of moved rows change. That count grows by at most the number of arrivals for each bound
 pub record OpensPieces (p q : Inside) (arrivals : List Arrival) : Type 0 where
   pub same : q ≡ record p { column = q.column; index = q.index; tally = record p.tally { moved = q.tally.moved } }
   pub permuted : IsPermutation (take (length p.column.handles - length arrivals) p.column.handles ++ map arrival_handle arrivals) q.column.handles

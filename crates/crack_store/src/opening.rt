@@ -8,7 +8,8 @@
 //! after       5 3 4 | 12 17 14 | 25 28 21 29
 //! ```
 ghost use Rattle.std.specs.Prelude.{◌≡◌, ◌-◌, ◌<◌, ◌≤◌, ◌++◌, ℕ, length, map, take, drop, slice_index_or};
-ghost use Rattle.crack_store.specs.Openings.{AreSorted, IsOpenable, IsOpeningReady, KeepsPut, Opens, OpensPieces, arrival_handle};
+ghost use Rattle.crack_store.specs.Openings.{AreSorted, IsOpenable, IsOpeningReady, KeepsPut, Opens, OpensPieces};
+ghost use Rattle.crack_store.specs.Openings.{arrival_handle};
 ghost use Rattle.crack_store.specs.declared.opening.Arrival.{Arrival};
 
 use crate::blocks::exchange_sides;
