@@ -165,7 +165,7 @@ def rows_of_file(path: str, count: int, kind: Keys, *, is_checked: bool = False)
     try:
         rows = read_saved(path, is_checked=is_checked).rows
     except OSError as error:
-        raise BadSave(f"{path} can't be read: {error.strerror}") from error
+        raise BadSave(f"{path} can't be read: {error.strerror or error}") from error
     if rows.dtype != row_dtype(kind) or rows.shape != (count,):
         raise BadSave(f"{path} hasn't {count} rows with keys of {kind.name}")
     return rows
