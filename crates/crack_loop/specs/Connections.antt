@@ -80,10 +80,6 @@ pub record Answers {D : Type 0} (bounds : D → Bounds) (splits : D → List Bou
   pub has_ended : new.has_ended ≡ old.has_ended
   pub broke_off : new.broke_off ≡ old.broke_off
 
--- a session that wants more bytes has appended all texts, and no line has ended it
-abbrev pub GoesOn : Why → SessionState → Type 0
-GoesOn why s = why ≡ Wants → (s.unwritten ≡ []) × (s.ending ≡ None)
-
 -- The input of a connection ends, and its session's input breaks off (`BreaksOff`): an unfinished line isn't carried
 -- out, but answered as a line that is no statement, unless it is blank. Nothing else changes.
 pub record Ends (old : ConnectionState) (out out' : List ℕ) (new : ConnectionState) : Type 0 where

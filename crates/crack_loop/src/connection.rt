@@ -43,7 +43,8 @@ pub enum Next {
 }
 
 impl Model for Connection {
-    ghost use Rattle.crack_loop.specs.Connections.{ConnectionState, GoesOn};
+    ghost use Rattle.crack_loop.specs.Connections.{ConnectionState};
+    ghost use Rattle.crack_loop.specs.Inside.{GoesOn};
 
     ghost Value = { ConnectionState };
 
