@@ -58,7 +58,8 @@ def run_all() -> tuple[int, int, int]:
 
 if __name__ == "__main__":
     if not extent.IS_WHOLE:
-        print(f"checks: a part, drawn from the seed {extent.SEED} (CRACKD_SEED={extent.SEED} draws the same)", flush=True)
+        seed = extent.SEED
+        print(f"checks: a part, drawn from the seed {seed} (CRACKD_SEED={seed} draws the same)", flush=True)
     all_passed, all_failed, all_skipped = run_all()
     print(f"{all_passed} passed, {all_failed} failed" + (f", {all_skipped} skipped" if all_skipped else ""))
     raise SystemExit(1 if all_failed else 0)

@@ -135,7 +135,7 @@ class Sending(threading.Thread):
                 self.sent += self.socket.send(given[self.sent : self.sent + 65536])
 
     def taken(self) -> list[str]:
-        """The whole lines that the connection took, once no more is sent: the beginning of another isn't carried out."""
+        """The whole lines that the connection took, once no more is sent; the beginning of another isn't one."""
         self.join()
         return self.text[: self.sent].split("\n")[:-1]
 

@@ -137,7 +137,8 @@ class Logs(fixtures.Case):
                 other.end()
             it.close()
             cut_off = "crackd: client {}: session cut off: refused 17: the connection was closed or failed at a read{}"
-            it.wait((2, 1, 0, 1), *it.notes(3, cut_off.format(one.address, UNFINISHED), cut_off.format(blank.address, "")))
+            lines = (cut_off.format(one.address, UNFINISHED), cut_off.format(blank.address, ""))
+            it.wait((2, 1, 0, 1), *it.notes(3, *lines))
 
     def test_an_unfinished_line_of_a_silent_client(self) -> None:
         """With --idle a line that was begun isn't carried out, and the log says so."""
