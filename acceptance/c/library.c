@@ -420,7 +420,8 @@ static void check_histories(void) {
         uint64_t number = 9, refused = 0;
         EXPECT(0, crackd_open(&handle, SPLITS, 0, limits[k], CRACKD_MOST_CELLS, CRACKD_MOST_LIFE));
         for (int call = 0; call < CALLS; call++)
-            refused += crackd_insert_many(&handle, keys, ROWS, payloads, ROWS, parts, ROWS, serials, ROWS, &number) != 0;
+            if (crackd_insert_many(&handle, keys, ROWS, payloads, ROWS, parts, ROWS, serials, ROWS, &number))
+                refused++;
         EXPECT(0, refused);
         EXPECT(0, crackd_checkpoint(&handle, 0, &number));
         EXPECT(true, number == since[k]);

@@ -195,8 +195,8 @@ class Found(WithRefusals, unittest.TestCase):
 
     def test_the_text_of_a_table(self):
         for text, said in {
-            "when,temp\n2020-01-01,1.5\n": "of key 'when' (year, month, day), payload 'temp' (1 decimal place), a header"
-            ", delimiter ','",
+            "when,temp\n2020-01-01,1.5\n": "of key 'when' (year, month, day), payload 'temp' (1 decimal place), "
+            "a header, delimiter ','",
             "1;2\n": "of key 0 (integers), payload 1 (integers), no header, delimiter ';'",
             "k|p\n1e5|2.25\n": "of key 'k' (floats), payload 'p' (2 decimal places), a header, delimiter '|'",
         }.items():

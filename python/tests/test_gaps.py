@@ -1,4 +1,4 @@
-"""Rows with gaps, in arrays, frames and Arrow data: a refusal names the argument that leaves them out, and it does so."""
+"""Rows with gaps, in arrays, frames and Arrow data: a refusal names the argument that leaves them out, and it does."""
 
 import array
 import datetime
