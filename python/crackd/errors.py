@@ -40,7 +40,8 @@ class Error(Exception):
 def _copied(kind: type[Error], words: tuple[Any, ...], attributes: dict[str, Any]) -> Error:
     """An error with this text and these attributes."""
     # only these two have all fields of an error in C, whatever its other base classes are
-    error = (OSError if issubclass(kind, OSError) else Exception).__new__(kind, *words)
+    own: Any = OSError if issubclass(kind, OSError) else Exception
+    error: Error = own.__new__(kind, *words)
     error.args = words
     vars(error).update(attributes)
     return error

@@ -152,7 +152,12 @@ def mapped(path: Any) -> Any:
 
 
 def _refuse(path: Any, why: str) -> NoReturn:
-    raise BadSave(f"{os.fspath(path)} can't be read: {why}")
+    raise BadSave(f"{named(path)} can't be read: {why}")
+
+
+def named(path: Any) -> str:
+    """A path as an error shows it."""
+    return os.fsdecode(path) if isinstance(path, (str, bytes, os.PathLike)) else str(path)
 
 
 def _read(path: Any, content: Any, is_checked: bool) -> Saved:
@@ -224,14 +229,14 @@ def _read_earlier(path: Any, content: Any) -> Saved:
             shape, _, dtype = np.lib.format.read_array_header_2_0(file)
     except Exception as error:
         # numpy raises errors of many types for a damaged head
-        raise BadSave(f"{os.fspath(path)} can't be read: {type(error).__name__}: {error}") from error
+        raise BadSave(f"{named(path)} can't be read: {type(error).__name__}: {error}") from error
     try:
         kind = Keys.of_dtype(dtype["key"])
         is_whole = dtype.names == ("key", "payload") and dtype == row_dtype(kind) and len(shape) == 1
     except (KeyError, TypeError, AttributeError) as error:
-        raise BadSave(f"{os.fspath(path)} has no rows of a table: {error}") from error
+        raise BadSave(f"{named(path)} has no rows of a table: {error}") from error
     if not is_whole:
-        raise BadSave(f"{os.fspath(path)} has no rows of a table, but {dtype} in {len(shape)} dimensions")
+        raise BadSave(f"{named(path)} has no rows of a table, but {dtype} in {len(shape)} dimensions")
     raw = content[file.tell() :]
     if len(raw) != shape[0] * dtype.itemsize:
         _refuse(path, f"it has {len(raw)} bytes of rows, and {shape[0]} rows need {shape[0] * dtype.itemsize}")

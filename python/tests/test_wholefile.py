@@ -269,6 +269,11 @@ class Others(InARoom):
                 file.seek(0)
                 file.write(b"head")
             self.assertEqual(os.read(end, 99), b"headrows")
+            # after an error there is nothing
+            with self.assertRaises(KeyError), whole_file(pipe, is_rewound=True) as file:
+                file.write(b"half")
+                raise KeyError
+            self.assertRaises(BlockingIOError, os.read, end, 99)
         finally:
             os.close(end)
 
