@@ -282,7 +282,9 @@ class Supervised(Run):
             return
         if self.options.is_counted:
             raise Stopped(NOT_DRAINED)
-        os.write(self.control.socket.fileno(), b"\n")
+        with contextlib.suppress(OSError):
+            # the program may have ended
+            os.write(self.control.socket.fileno(), b"\n")
 
     def run(self) -> int:
         """Serves until the end, and returns the exit status."""

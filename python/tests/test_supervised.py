@@ -164,10 +164,14 @@ class Signals(InARoom):
             self.assert_closed(served)
 
     def test_a_terminal_that_is_closed_may_tell_it_twice(self):
-        served = self.start().listening()
-        for _ in range(2):
-            served.signal(signal.SIGHUP)
-        self.assertEqual(served.end()[0], 0)
+        served = self.start("--drain", "2").listening()
+        with served.client() as busy:
+            # the server waits at its end for a client that takes no replies
+            busy.sendall(b"layout 0\n" * 200_000)
+            for _ in range(2):
+                time.sleep(0.3)
+                served.signal(signal.SIGHUP)
+            self.assertEqual(served.end()[0], 0)
 
     def test_a_closed_terminal_may_be_ignored(self):
         prepare = lambda: signal.signal(signal.SIGHUP, signal.SIG_IGN)
