@@ -51,7 +51,8 @@ def as_flat(it: Any) -> Any:
         return _of_pandas(it, type_of_numpy(dtype))
     found = np.asanyarray(it)
     if found.ndim != 1:
-        raise ValueError(f"an array must have one dimension, not {found.ndim}")
+        # as Python has it, what has no dimension has no items
+        raise (ValueError if found.ndim else TypeError)(f"an array must have one dimension, not {found.ndim}")
     if isinstance(found, np.ma.MaskedArray):
         if np.ma.is_masked(found):
             raise ValueError(f"item {np.flatnonzero(np.ma.getmaskarray(found))[0]} of the array is masked")
