@@ -87,6 +87,7 @@ pub record Ends (old : ConnectionState) (out out' : List ℕ) (new : ConnectionS
   pub broke_off : IsTrue new.broke_off ↔ IsSome (reading_of old.session.begun)
   pub same : new ≡ record old { session = new.session; has_ended = true; broke_off = new.broke_off }
 
--- a line of the client has no line feed and isn't blank, now or when the input ended
+-- a line of the client has no line feed and isn't blank: it was unfinished when the input ended, or it is unfinished
+-- and the connection is to read
 abbrev pub HasUnfinished : ConnectionState → Type 0
-HasUnfinished c = IsTrue c.broke_off ⊎ IsSome (reading_of c.session.begun)
+HasUnfinished c = IsTrue c.broke_off ⊎ ((next_of c ≡ Read) × IsSome (reading_of c.session.begun))

@@ -157,12 +157,12 @@ impl Connection {
         self.session.break_off(out);
     }
 
-    /// Whether the client's last line wasn't carried out because it has no line feed: it is unfinished, or it was
-    /// when the input ended. False if that line is blank. O(1).
+    /// Whether the client's last line wasn't carried out because it has no line feed: it was unfinished when the input
+    /// ended, or all that was received is answered and written, and a line is unfinished. False if it is blank. O(1).
     pub fn has_unfinished(&self) -> bool
         ensures { IsTrue result ↔ HasUnfinished self.now }
     {
-        self.broke_off || self.session.has_unfinished()
+        self.broke_off || (matches!(self.next(), Next::Read) && self.session.has_unfinished())
     }
 
     /// The texts that aren't written yet.

@@ -1,8 +1,15 @@
 -- The statements of bytes whose sender is gone are those that the bytes finish, and the refusal of what is left.
-use Rattle.std.proofs.Common.{◌≡◌, ℕ, cond, true, false, List, [], ◌∷◌, ◌++◌, eqb, refl, sym, ap, ◌∙◌, ⊎_elim, append_assoc, append-nil}
-use Rattle.std.proofs.lemmas.Bool.{cases_Bool}
+use Rattle.std.proofs.Common.{◌≡◌, ℕ, cond, true, false, Option, None, Some, List, [], ◌∷◌, ◌++◌, eqb, refl, sym, ap, ◌∙◌, ⊎_elim, append_assoc, append-nil}
+use Rattle.std.proofs.lemmas.Bool.{cases_Bool, false≢true}
+use Rattle.std.specs.Option.{is_some}
+use Rattle.crack_row.specs.declared.refusal.Refusal.{Refusal}
+use Rattle.crack_row.specs.declared.refusal.Refusal.TheVariants.{BadStatement}
 use Rattle.crack_commands.specs.Grammar.{Reading}
-use Rattle.crack_session.specs.Feeding.{unfinished, fed}
+use Rattle.crack_commands.specs.Texts.{refusal_text}
+use Rattle.crack_session.specs.declared.answer.Answer.TheVariants.{Refused}
+use Rattle.crack_session.specs.declared.session.SessionProgress.{SessionProgress}
+use Rattle.crack_session.specs.Answers.{answer_text}
+use Rattle.crack_session.specs.Feeding.{SessionState, BreaksOff, progress_after, unfinished, fed}
 use Rattle.crack_session.specs.Input.{has_feed}
 use Rattle.crack_session.specs.Lines.{cut_line}
 use Rattle.crack_session.specs.Readings.{reading_of, until_last, is_last, broken_off, refused_if_some}
@@ -48,3 +55,22 @@ statements_broken begun bytes is =
     ∙ ap (λ rs. until_last (fed [] bytes ++ rs)) (broken_last bytes)
     ∙ sym (until_last-again (fed [] bytes) (broken_off (last_line bytes)))
     ∙ ap (λ rs. until_last (rs ++ broken_off (last_line bytes))) (sym (statements_whole bytes))
+
+text_of_refusal : (e : Refusal) → refusal_text e ≡ answer_text (Refused e)
+unfolding answer_text
+text_of_refusal e = refl
+
+counted_in : (old inside : SessionState) (p : SessionProgress) → inside ≡ record old { begun = [] } → p ≡ progress_after inside.progress (Refused BadStatement) → record inside { progress = p } ≡ record old { begun = []; progress = progress_after old.progress (Refused BadStatement) }
+counted_in old inside p is counted =
+    ap (λ (q : SessionProgress). record inside { progress = q }) counted
+    ∙ ap (λ (s : SessionState). record s { progress = progress_after s.progress (Refused BadStatement) }) is
+
+-- a line that isn't blank is refused
+pub breaks_some : (old inside : SessionState) (p : SessionProgress) (out out' : List ℕ) (r : Option Reading) → r ≡ reading_of (old.begun ++ []) → is_some r ≡ true → inside ≡ record old { begun = [] } → p ≡ progress_after inside.progress (Refused BadStatement) → out' ≡ out ++ refusal_text BadStatement → BreaksOff old out out' (record inside { progress = p })
+breaks_some old inside p out out' None reading some is counted text = absurd (false≢true some)
+breaks_some old inside p out out' (Some r) reading some is counted text =
+    let read : reading_of old.begun ≡ Some r = ap reading_of (sym (append-nil old.begun)) ∙ sym reading in
+    record {
+      out_is = rw read (text ∙ ap (λ t. out ++ t) (text_of_refusal BadStatement ∙ sym (append-nil (answer_text (Refused BadStatement)))));
+      after = rw read (counted_in old inside p is counted);
+    }
