@@ -20,8 +20,8 @@ from .fields import GAPS
 LEAST_BYTES = 8_000_000
 CHARACTERS_AT_ONCE = 1 << 18
 FIELDS_AT_ONCE = 20_000
-# a longer integer with a leading zero isn't recognized at once
-MOST_DIGITS = 40
+# a longer integer with a leading zero isn't recognized at once, and no such integer in a longer line
+MOST_DIGITS, MOST_OF_A_LINE = 40, 1 << 16
 
 
 def columns_of_pandas(file: Any, columns: Sequence[tuple[Any, Any]]) -> Optional[list[Any]]:
@@ -30,11 +30,13 @@ def columns_of_pandas(file: Any, columns: Sequence[tuple[Any, Any]]) -> Optional
     if pandas is None or not file.delimiter.isascii():
         return None
     found = fields_of(file, columns)
-    is_strict = any(column.is_strict and not is_read_as_text(column) for _, column in columns)
-    looks = None if found is None else look_at(file, is_strict)
-    if found is None or looks is None:
+    if found is None:
         return None
     is_header, places = found
+    strict = [at for at, (_, it) in zip(places, columns) if it.is_strict and not is_read_as_text(it)]
+    looks = look_at(file, strict)
+    if looks is None:
+        return None
     texts: dict[int, type[str]] = {
         at: str for at, (_, it) in zip(places, columns) if is_read_as_text(it) or it.is_strict and looks.has_zeros
     }
@@ -72,32 +74,66 @@ def fields_of(file: Any, columns: Sequence[tuple[Any, Any]]) -> Optional[tuple[b
 
 
 class Looks(NamedTuple):
-    """What a file looks like: `has_zeros` says whether an integer in it has a leading zero."""
+    """What a file looks like: `has_zeros` says whether an integer with a leading zero may be in the columns looked at."""
 
     has_zeros: bool
 
 
-def look_at(file: Any, is_strict: bool) -> Optional[Looks]:
+def look_at(file: Any, places: Sequence[int]) -> Optional[Looks]:
     """What a file looks like. None if pandas may read it wrongly. Raises an error for a wrong encoding.
 
     At a zero character pandas would end a field. A carriage return alone ends a line, but pandas may shift the fields
-    after it. Only with `is_strict` leading zeros are looked for, which pandas would read.
+    after it. In the columns with the numbers `places` leading zeros are looked for, which pandas would read.
     """
-    before, has_zeros = "\n\n", False
+    # what isn't looked at yet: the last line, after the end of the line before it
+    before, has_zeros = "\n", not places
     with file.source.text() as text:
         while more := text.read(CHARACTERS_AT_ONCE):
             if "\0" in more or has_return(before, more):
                 return None
-            has_zeros = has_zeros or is_strict and has_leading_zeros(before + more, file.delimiter)
-            before = (before + more)[-MOST_DIGITS - 8 :]
+            more = before + more
+            if not has_zeros:
+                has_zeros = len(before) > MOST_OF_A_LINE or may_have_zeros(more, file.delimiter, places)
+            before = more[max(more.rfind("\n"), 0) :] if not has_zeros else more[-1:]
     if before.endswith("\r"):
         return None
-    return Looks(has_zeros or is_strict and has_leading_zeros(before + "\n", file.delimiter))
+    return Looks(bool(places) and (has_zeros or may_have_zeros(before + "\n", file.delimiter, places)))
 
 
-def has_leading_zeros(text: str, delimiter: str) -> bool:
+def may_have_zeros(text: str, delimiter: str, places: Sequence[int]) -> bool:
+    """Whether an integer with a leading zero may be in these columns. The text begins with the end of a line."""
+    letters = np.frombuffer(("\n" + text).encode("ascii", "replace"), np.uint8)
+    return has_leading_zeros(letters, delimiter) and ('"' in text or have_zeros(letters[1:], delimiter, places))
+
+
+def have_zeros(letters: Any, delimiter: str, places: Sequence[int]) -> bool:
+    """Whether a field in these columns begins with a zero and a digit, perhaps after a sign, or this isn't known.
+
+    It isn't known if lines differ in their number of fields, or if a field begins with a blank. What follows the last
+    end of a line doesn't count.
+    """
+    is_end = letters == ord("\n")
+    ends, separators = np.flatnonzero(is_end), np.flatnonzero(is_end | (letters == ord(delimiter)))
+    separators = separators[: np.searchsorted(separators, ends[-1])]
+    lines = len(ends) - 1
+    if not lines:
+        return False
+    width = len(separators) // lines
+    if len(separators) != lines * width or not (separators[::width] == ends[:-1]).all() or max(places) >= width:
+        return True
+    for at in places:
+        begin = separators[at::width] + 1
+        first = letters[begin]
+        if ((first == ord(" ")) | (first == ord("\t"))).any():
+            return True
+        begin += (first == ord("-")) | (first == ord("+"))
+        if ((letters[begin] == ord("0")) & are_digits(letters[np.minimum(begin + 1, len(letters) - 1)])).any():
+            return True
+    return False
+
+
+def has_leading_zeros(letters: Any, delimiter: str) -> bool:
     """Whether a field in a text is an integer with a leading zero, in any column. The end of the text ends no field."""
-    letters = np.frombuffer(text.encode("ascii", "replace"), np.uint8)
     ends = [ord(it) for it in delimiter + '\r\n" \t']
     # the characters before a leading zero, the zero, and the digit after it
     second, first, zero, digit = (letters[at : len(letters) - 3 + at] for at in range(4))

@@ -178,20 +178,31 @@ class Zeros(unittest.TestCase):
                 rows = [delimiter.join(["5", "0", "2020-01-02 00:00:00"])] * others
                 for fields in ([field, "5"], ["5", field], ["5", field, "6"]):
                     for text in ([*rows, delimiter.join(fields)], [delimiter.join(fields), *rows]):
-                        said = "\n\n" + end.join(text) + end
-                        self.assertEqual(pandascsv.has_leading_zeros(said, delimiter), is_zero, said)
+                        said = np.frombuffer(("\n\n" + end.join(text) + end).encode(), np.uint8)
+                        self.assertEqual(pandascsv.has_leading_zeros(said, delimiter), is_zero, text)
 
     def test_chunks(self):
         with tempfile.TemporaryDirectory() as room:
             path = pathlib.Path(room) / "rows.csv"
+            for text, places in {
+                "1,2,01\n3,4,02": [2],
+                "1,-2,3\n4,05,6\n7,08,9\n": [1],
+                "01,2,-03\n04,-5,+06": [0, 2],
+                "-1,,00\r\n0,0,00\r\n": [2],
+            }.items():
+                path.write_text(text, encoding="ascii")
+                for at, size in itertools.product(range(3), (1, 3, 100)):
+                    with mock.patch.object(pandascsv, "CHARACTERS_AT_ONCE", size):
+                        file = csvfile.CsvFile(path, ",", False, "utf-8")
+                        self.assertEqual(pandascsv.look_at(file, [at]), (at in places,), (text, at, size))
             texts = {"1,2\n3,4\n": False, "1,2\n3,04": True, "10,200\n,0\n": False, "01,2": True}
             for text, has_zeros in texts.items():
                 path.write_text(text, encoding="ascii")
                 for size in range(1, 12):
                     with mock.patch.object(pandascsv, "CHARACTERS_AT_ONCE", size):
                         file = csvfile.CsvFile(path, ",", False, "utf-8")
-                        self.assertEqual(pandascsv.look_at(file, True), (has_zeros,), text)
-                        self.assertEqual(pandascsv.look_at(file, False), (False,))
+                        self.assertEqual(pandascsv.look_at(file, [0, 1]), (has_zeros,), text)
+                        self.assertEqual(pandascsv.look_at(file, []), (False,))
 
 
 @wants_pandas
