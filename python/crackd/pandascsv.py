@@ -155,7 +155,10 @@ def has_leading_zeros(letters: Any, delimiter: str) -> bool:
     at = at[np.isin(np.where(is_sign, letters[at - 2], before), ends)]
     end = at + 1
     for _ in range(MOST_DIGITS):
-        end = end + are_digits(letters[np.minimum(end, len(letters) - 1)])
+        is_digit = are_digits(letters[np.minimum(end, len(letters) - 1)])
+        if not is_digit.any():
+            break
+        end = end + is_digit
     end = end[end < len(letters)]
     return bool((np.isin(letters[end], ends) | are_digits(letters[end])).any())
 
