@@ -16,9 +16,9 @@ MOST_DECIMALS = 9
 PARTS = 10**9
 # floats above this number aren't multiplied exactly, and decimals of more digits than 15 aren't found among floats
 EXACT, MOST_FOUND = 1 << 52, 10**15
-# decimal places are found among floats if each is within one part in 10**12 of its decimal, and this near to it,
-# counted in units of the last place
-NEAR, NEARNESS = 1e-12, 1e-3
+# decimal places are found among floats if each is this near to its decimal, relative to it: two units in a float's last
+# place, as sums of two floats may be away, and less than decimals of 15 digits are from one another
+NEAR = 2.0**-51
 FLOATS_AT_ONCE = 1 << 14
 # wide enough for every key, payload and sum
 WIDE = decimal.Context(prec=100, Emax=decimal.MAX_EMAX, Emin=decimal.MIN_EMIN)
@@ -304,8 +304,7 @@ def are_near(floats: Any, decimals: int) -> Any:
         product = floats * float(10**decimals)
         found = np.rint(product)
         size = np.abs(found)
-        limit = np.maximum(np.minimum(size * NEAR, NEARNESS), size * 2.0**-52)
-        return (np.abs(product - found) <= limit) & (size <= MOST_FOUND)
+        return (np.abs(product - found) <= size * NEAR) & (size <= MOST_FOUND)
 
 
 def places_of_one(number: Any) -> Optional[int]:

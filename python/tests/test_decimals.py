@@ -395,6 +395,13 @@ class Arrays(unittest.TestCase):
         many = np.round(np.arange(100_000) / 10, 1)
         many[70_000] = 0.125
         self.assertEqual(decimals.found_decimals(many), 3)
+        # large floats without places don't hide those of others
+        self.assertEqual(decimals.found_decimals(np.array([0.25] * 20_000 + [5e14] * 20_000)), 2)
+        self.assertEqual(decimals.found_decimals(np.array([5e14] * 20_000 + [0.25] * 20_000)), 2)
+        # digits of which 15 are surely meant are never left out
+        for it, wanted in [(10_000_000_000.0005, 4), (999999.999999999, 9), (100000.000000001, 9), (1.00000001, 8)]:
+            self.assertEqual(decimals.found_decimals(np.array([it])), wanted)
+            self.assertEqual(decimals.found_decimals([it, D(1)]), wanted)
 
 
 @wants_library

@@ -201,6 +201,8 @@ class Zones:
             rows += [*table.insert_many(["2020-05-01T12:00+09:00", noon], [8, 16])]
             self.assertEqual({str(table.get(it).key) for it in rows}, {"2020-05-01 05:00:00+02:00"})
             self.assertEqual((table.sum(noon), table.sum(None, noon), table.sum("2020-05-01T03:00:00Z")), (31, 0, 31))
+            (row,) = table.insert_many(zones.Zoned(np.array(["2020-06"], "M8[M]"), "UTC"), [32])
+            self.assertEqual(str(table.get(row).key), "2020-06-01 02:00:00+02:00")
             fold = datetime.datetime(2020, 10, 25, 2, 30, tzinfo=zoneinfo.ZoneInfo("Europe/Berlin"), fold=1)
             row = table.insert(fold, 1)
             self.assertEqual(table.get(row, raw=True).key, np.datetime64("2020-10-25T01:30"))
