@@ -3,7 +3,7 @@ use Rattle.std.proofs.Common.{◌≡◌, ℕ, List, ap, ◌∙◌}
 use Rattle.crack_session.specs.Feeding.{SessionState, BreaksOff, StoppedFor}
 use Rattle.crack_session.specs.declared.feeding.Why.{Why}
 use Rattle.crack_session.specs.declared.feeding.Why.TheVariants.{Wants, Full, Quit, Refused}
-use Rattle.crack_loop.specs.Connections.{GoesOn}
+use Rattle.crack_loop.specs.Inside.{GoesOn}
 
 pub goes_on : (why : Why) (left : ℕ) (out : List ℕ) (s : SessionState) → StoppedFor why left out s → GoesOn why s
 goes_on Wants left out s stops = λ wants. stops.1
