@@ -320,7 +320,7 @@ class Keys:
         if np is None:
             code = "d" if self.kind == "f" else "q"
             result = empty(code, 0)
-            result.extend(self.back_one(it) for it in found)
+            result.extend(map(self.raw.back_one, found))
             return result
         if self.kind == "f":
             return np.where(found >> np.uint64(63), found ^ np.uint64(SIGN), ~found).view(np.float64)

@@ -121,6 +121,16 @@ class Decimals:
                 self.assertEqual(table.sum_by([1, 4]).tolist(), [(2**64 - 1) / 100])
                 self.assertEqual(table.sum_by([1, 4], raw=True).tolist(), [2**64 - 1])
 
+    def test_lists_of_rows(self):
+        with self.filled() as (table, rows):
+            found = table.select()
+            wanted = {row: (float(key), float(it)) for row, key, it in zip(numbers(rows), KEYS, PAYLOADS)}
+            self.assertEqual({int(row): (key, it) for row, key, it in zip(*found)}, wanted)
+            found = table.select(raw=True)
+            wanted = {row: (key * 100, it * 10) for row, key, it in zip(numbers(rows), exact(KEYS), exact(PAYLOADS))}
+            self.assertEqual({int(row): (key, it) for row, key, it in zip(*found)}, wanted)
+            self.assertEqual([float(it) for it in table.sum_by([None, 0.29, None])], [-0.1, 999999999913.1])
+
     @wants_numpy
     def test_arrays_have_the_nearest_floats(self):
         with self.filled() as (table, rows):

@@ -15,11 +15,13 @@ SECONDS = 600
 # the cases that don't need numpy and take little time
 CASES = ["test_keys.InProcessArguments", "test_keys.Kinds", "test_keys.Options", "test_ends.InProcessNumbers"]
 CASES += ["test_kinds.InProcessKinds", "test_table.InProcessCases", "test_calls.Between", "test_layouts"]
-CASES += ["test_questions.InProcessQuestions", "test_questions.InProcessFiles"]
+CASES += ["test_questions.InProcessQuestions", "test_questions.InProcessFiles", "test_decimals.InProcessDecimals"]
+CASES += ["test_decimals.Arrays"]
 CASES += ["test_files.Files", "test_files.LoadsInProcess", "test_lines.Lines", "test_lines.Fields"]
 CASES += ["test_lines.IntoATableHere", "test_errors.Kinds", "test_errors.InProcessRaised", "test_without_numpy.Here"]
 OF_A_SERVER = ["test_keys.OverTcpArguments", "test_questions.OverTcpQuestions", "test_blocks.Refusals"]
 OF_A_SERVER += ["test_blocks.Answers", "test_files.LoadsOverTcp", "test_without_numpy.OnAServer"]
+OF_A_SERVER += ["test_decimals.OverTcpDecimals"]
 HIDDEN = "import sys, unittest; sys.modules.update(dict.fromkeys(('numpy', 'pandas'))); unittest.main(None)"
 
 
