@@ -74,7 +74,7 @@ def fields_of(file: Any, columns: Sequence[tuple[Any, Any]]) -> Optional[tuple[b
 
 
 class Looks(NamedTuple):
-    """What a file looks like: `has_zeros` says whether an integer with a leading zero may be in the columns looked at."""
+    """What a file looks like: `has_zeros` says whether an integer with a leading zero may be in these columns."""
 
     has_zeros: bool
 
