@@ -12,7 +12,6 @@ from ctypes import byref, c_int64, c_uint8, c_uint32, c_uint64
 from typing import Any, Callable, Concatenate, Optional, ParamSpec, Sequence, TypeVar
 
 from .arrays import empty, from_ints, np, plain
-from .errors import refused
 from .routing import SHARD_SHIFT, Spare, blocks_of, error_of
 from .rows import SHIFT
 from .typed import RowNumbers

@@ -31,7 +31,6 @@ from ways import (
 )
 
 from crackd import saved
-from crackd.keys import Keys
 
 if cluster is not None:
     from crackd import folders

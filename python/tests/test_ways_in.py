@@ -1,7 +1,6 @@
 """Keys in every form, by every way into a table: dates of each unit, categories, and generators."""
 
 import collections
-import contextlib
 import importlib.util
 import unittest
 
