@@ -135,7 +135,8 @@ class Column:
         if self.dtype is None:
             self.dtype, self.unit = DATES.get(form.partition(":")[0], (None, None))
             self.zone = zone_name(form.partition(":")[2] or None) if self.dtype is not None else None
-        if self.dtype is None:
+        # (places are integers)
+        if self.dtype is None or own.dictionary and np.dtype(self.coded).kind not in "iu":
             raise TypeError(f"column {self.name!r} has the Arrow type {form!r}, which is no number and no date")
 
     def whole(self, parts: Sequence[Any]) -> Any:

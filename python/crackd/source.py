@@ -49,9 +49,6 @@ class CsvError(Error, ValueError):
         super().__init__(f"{', '.join([path, *where])}: {what}{needs_text(self.needs)}")
         self.path, self.line, self.column, self.name, self.what = path, line, column, name, what
 
-    def __reduce__(self) -> Any:
-        return type(self), (self.path, self.line, self.column, self.name, self.what, self.needs)
-
 
 def needs_text(needs: dict[str, Any]) -> str:
     """The arguments that are needed, as a sentence after the reason."""

@@ -331,7 +331,7 @@ class OfArrow:
         self.assertEqual(self.filled(data, key_type="datetime64[D]"), list(zip(days, range(2))))
         with self.table() as table:
             for column, error in [
-                (("c>l", [([1, None], [0, 0])]), ValueError),
+                (("c>l", [([1, None], [0, 1])]), ValueError),
                 (("c>l", [([1, 2], [0, None])]), ValueError),
                 (("g>l", [([1, 2], [0, 1])]), TypeError),
             ]:
