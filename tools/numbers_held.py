@@ -35,7 +35,7 @@ LIMITS = [
      "rows as cells, at most {}", "cells 1 to {}, lives"]),
     ("crack_row", "GREATEST_KEY", ["Keys are 0 to {}, payloads", "| key | 0 to {} |", "GREATEST_KEY = {}"]),
     ("crack_row", "GREATEST_LIFE", ["**{} commands*", "`--life` 1 to {} |", "life, which is 1 to {}", "lives 1 to {}"]),
-    ("crack_row", "GREATEST_LIMIT", ["does it, for N up to {}. Then", "`--limit` 1 to {}, ",
+    ("crack_row", "GREATEST_LIMIT", ["sets it, for N up to {}. Then", "`--limit` 1 to {}, ",
      "if it has one, which is 1 to {}", "a checkpoint (1 to {}, or 0", "Length of a history, 1 to {} [",
      "histories 1 to {}, cells", "is emptied, 1 to {}. By"]),
     ("crack_row", "GREATEST_PAYLOAD", ["to {} | | sum of payloads"]),
