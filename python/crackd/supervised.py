@@ -82,7 +82,7 @@ class Options:
                     continue
             self.words.append(word)
         self.is_counted, self.is_quiet = "sessions" in given, "quiet" in given
-        if not given & {"sessions", "until-eof"}:
+        if not (given & {"sessions", "until-eof"} or self.asks_for_help):
             self.words.append("--until-eof")
 
     def _take_file(self, name: str, path: str) -> None:

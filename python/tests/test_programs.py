@@ -158,7 +158,7 @@ class Programs(unittest.TestCase):
         path = pathlib.Path(self.program(""))
         path.write_text("#!/bin/sh\necho program $*\nexit 7\n", encoding="ascii")
         environment = {**os.environ, "CRACKD": str(path), "PYTHONPATH": str(pathlib.Path(crackd.__file__).parents[1])}
-        for words in (["script", "1", "2"], ["serve", "--help"], ["batch"], ["csv", "--cells", "5"]):
+        for words in (["script", "1", "2"], ["serve", "--sessions", "1"], ["batch", "--help"], ["csv", "--cells", "5"]):
             command = [sys.executable, "-m", "crackd", *words]
             ran = subprocess.run(command, env=environment, capture_output=True, text=True, check=False)
             self.assertEqual((ran.returncode, ran.stdout), (7, f"program {' '.join(words)}\n"))

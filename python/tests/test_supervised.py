@@ -358,9 +358,10 @@ class Files(InARoom):
         saved = "key,payload\n0,0\n1,11\n2,20\n3,30\n18446744073709551615,-7\n"
         self.assertEqual((self.room / "rows.csv").read_text(), saved)
         # once more, and without a change
-        served = self.start("--load", "rows.csv", "--save", "again.csv").listening()
+        served = self.start("--load", "rows.csv", "--save", "again.csv", "--quiet").listening()
         served.signal(signal.SIGTERM)
-        self.assertEqual(served.end()[0], 0)
+        status, _, errors = served.end()
+        self.assertEqual((status, errors), (0, ""))
         self.assertEqual((self.room / "again.csv").read_text(), saved)
 
     @wants_numpy
