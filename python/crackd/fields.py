@@ -210,6 +210,9 @@ WIDE = decimal.Context(prec=100)
 
 def has_leading_zero(fields: list[str]) -> bool:
     """Whether a field of digits has a leading zero."""
+    text = "\n" + "\n".join(fields)
+    if not any(it in text for it in ("\n0", "-0", "+0", " ", "\t")):
+        return False
     text = ("\n" + "\n\n".join(fields) + "\n").replace("\n-", "\n").replace("\n+", "\n")
     is_plain = text.count("\n0") == text.count("\n0\n") + text.count("\n0.")
     if is_plain and " " not in text and "\t" not in text:

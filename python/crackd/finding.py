@@ -22,6 +22,8 @@ from .verdicts import Verdict, verdict_on
 DELIMITERS = ",;\t|"
 # the characters and the records of the sample, and the records by which delimiters are compared
 SAMPLE, RECORDS, FEW_RECORDS = 1 << 15, 400, 100
+# a sample of long lines has this many of them, or this many characters
+LINES, MOST = 20, 1 << 24
 ONE_FIELD = "the line has only 1 field"
 
 Needs = dict[str, tuple[Any, ...]]
@@ -73,8 +75,9 @@ class Finder:
         self.needs: Needs = {}
         text, is_whole = sample_of(source)
         self.delimiter = self._delimiter(text) if asked.delimiter is None else checked_delimiter(asked.delimiter)
-        self.sample = list(itertools.islice(records_of(text, self.delimiter), RECORDS))
-        self.is_whole = is_whole and len(self.sample) < RECORDS
+        errors: list[csv.Error] = []
+        self.sample = list(itertools.islice(records_of(text, self.delimiter, errors), RECORDS))
+        self.is_whole = is_whole and len(self.sample) < RECORDS and not errors
         self.header = self._header()
 
     def _delimiter(self, text: str) -> str:
@@ -255,11 +258,14 @@ class Finder:
 
 
 def sample_of(source: Source) -> tuple[str, bool]:
-    """The beginning of a file up to the end of a line, and whether it is all of the file."""
+    """The beginning of a file up to the end of a line, and whether it is all of the file. It has some lines."""
+    found = ""
     with source.text() as text:
-        found = text.read(SAMPLE)
-    if len(found) < SAMPLE:
-        return found, True
+        while len(found) < MOST and found.count("\n") + found.count("\r") < LINES:
+            more = text.read(SAMPLE)
+            if not more:
+                return found, True
+            found += more
     return found[: max(found.rfind("\n"), found.rfind("\r")) + 1], False
 
 

@@ -82,6 +82,20 @@ class Found(WithRefusals, unittest.TestCase):
         self.assertEqual(self.numbers("a,b\n"), [])
         self.assertEqual(self.numbers(""), [])
 
+    def test_long_lines(self):
+        """A header that is longer than a sample."""
+        names = [f"a column with a long name, number {it}" for it in range(3000)]
+        header = ";".join(names)
+        text = header + "\n" + ";".join(["7"] * 3000) + "\n"
+        self.assertGreater(len(header), 3 * finding.SAMPLE)
+        self.assertEqual(self.numbers(text), [(7, 7)])
+        self.assertEqual(self.loaded(text, payload=names[2999]).found["key"], names[0])
+
+    def test_a_good_file_is_not_surveyed(self):
+        text = "t,p\n" + "2020-01-01 00:00:00,1.5\n" * 20_000
+        with mock.patch.object(finding.Finder, "_surveyed", side_effect=AssertionError):
+            self.assertEqual(len(self.loaded(text)), 20_000)
+
     def test_a_header_for_some_columns_only(self):
         error = self.refused("id,2019\n1,5\n2,6\n", {"header": (True,)})
         self.assertEqual(error.line, 1)
