@@ -38,6 +38,11 @@ TEXT = re.compile(
     r"((?:[0-9]{4}|[+-][0-9]{4,6})(?:-[0-9]{2}){0,2})"
     r"(?:([T ][0-9]{2}(?::[0-9]{2}){0,2})(?:(?<=:[0-9]{2}:[0-9]{2})\.([0-9]{1,18}))?(Z|[+-][0-9]{2}(?::?[0-9]{2})?)?)?"
 )
+# texts of days, and of times, which numpy reads many at a time
+MANY_DAYS = re.compile(r"(?:[0-9]{4}-[0-9]{2}-[0-9]{2}\n)+")
+MANY_TIMES = re.compile(
+    r"(?:[0-9]{4}-[0-9]{2}-[0-9]{2}[T ][0-9]{2}:[0-9]{2}(?::[0-9]{2}(?:\.[0-9]{1,6})?)?\n)+"
+)
 LONG_YEAR = re.compile(r"[0-9]{5,}(?:-.*)?")
 
 
@@ -146,6 +151,17 @@ def time_of_text(text: str) -> Time:
     # the decimals are added here, since numpy would overflow where they don't fit
     moment = moment_of(np.datetime64(found[1] + (found[2] or "")), "a date") + int((found[3] or "").ljust(18, "0"))
     return Time(moment - (offset or 0) * SECOND, offset is None, found[2] is None)
+
+
+def array_of_texts(texts: Any) -> Any:
+    """An array of the dates in these texts, or None if they aren't all days or all times without an offset."""
+    text = "\n".join([*texts, ""])
+    unit = "D" if MANY_DAYS.fullmatch(text) else "us" if MANY_TIMES.fullmatch(text) else None
+    try:
+        return None if unit is None or text.count("\n") != len(texts) else np.array(texts, f"datetime64[{unit}]")
+    except ValueError:
+        # the caller finds the text, one by one
+        return None
 
 
 def has_zone(date: Any) -> bool:

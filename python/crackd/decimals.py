@@ -347,6 +347,8 @@ def end_of(end: Any, decimals: int) -> Any:
         raise TypeError(f"the end of a range of decimals can't be of type {type(end).__name__}")
     if end != end:
         raise ValueError("NaN can't be the end of a range")
+    if isinstance(end, numbers.Integral):
+        return int(end)
     if isinstance(end, numbers.Rational):
         return fractions.Fraction(int(end.numerator), int(end.denominator))
     if abs(end) == float("inf"):
@@ -358,7 +360,7 @@ def end_of(end: Any, decimals: int) -> Any:
 
 def ceiling_of(end: Any, decimals: int) -> int:
     """The least integer that stands for a decimal at or above an end, or one that is below or above all integers."""
-    if isinstance(end, fractions.Fraction):
+    if isinstance(end, (int, fractions.Fraction)):
         return math.ceil(end * 10**decimals)
     found = decimal.Decimal(end)
     if found and (not found.is_finite() or found.adjusted() > MOST_DIGITS):

@@ -26,7 +26,20 @@ from .arrays import (
     types_of,
     whole,
 )
-from .dates import DAY, SECOND, Unit, array_of, has_zone, is_date, of_numpy, rescaled, time_of, unit_of, zone_of_items
+from .dates import (
+    DAY,
+    SECOND,
+    Unit,
+    array_of,
+    array_of_texts,
+    has_zone,
+    is_date,
+    of_numpy,
+    rescaled,
+    time_of,
+    unit_of,
+    zone_of_items,
+)
 from .decimals import (
     Scaled,
     ceiling_of,
@@ -258,6 +271,9 @@ class Keys:
                 return given, True
             given = given.tolist()
         zoned = {has_zone(it) for it in given} if self.zone is not None else {False}
+        if types_of(given) == {str}:
+            found = array_of_texts(given)
+            return given if found is None else found, True
         if len(zoned) > 1 or any(issubclass(it, str) for it in types_of(given)):
             return given, True
         found = array_of(given, "a key")

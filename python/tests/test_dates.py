@@ -80,6 +80,22 @@ class Dates:
             self.assertRaisesRegex(ValueError, said, table.count, "202001", None)
             self.assertEqual(table.count(), 1)
 
+    def test_many_texts_are_keys(self):
+        days = np.arange(-719_528, 2_932_897, 99_999).view("M8[D]")
+        for unit, ends in [("D", [""]), ("us", ["T12:30", "T00:00:01", " 23:59:59.25", "T23:59:59.999999"])]:
+            texts = [f"{it}{end}" for it in days.astype(str) for end in ends]
+            seconds = {"": 0, "T12:30": 45_000, "T00:00:01": 1, " 23:59:59.25": 86_399.25}
+            seconds["T23:59:59.999999"] = 86_399.999999
+            micros = [int(it) * 86_400 * 10**6 + round(seconds[end] * 10**6) for it in days.view("i8") for end in ends]
+            with self.table(key_type="datetime64[us]") as table:
+                for given in (texts, np.array(texts), iter(texts)):
+                    rows = table.insert_many(given, range(len(texts)))
+                    self.assertEqual([table.get(it).key.view("i8") for it in rows[::9]], micros[::9])
+                    self.assertEqual(table.delete_range(), len(texts))
+                for wrong in ("2021-02-29", "2020-01-01T25:00", "2020-01-01\n2020-01-01", "NaT", "x"):
+                    self.assertRaises(ValueError, table.insert_many, [*texts, wrong], range(len(texts) + 1))
+                self.assertEqual(len(table), 0)
+
     def test_each_text_is_a_key(self):
         for text, (year, month, day, seconds) in TEXTS.items():
             moment = (days_before(year, month) + day - 1) * 86_400 + seconds
