@@ -1,5 +1,6 @@
 """Tables in the process that are refused memory, and memory that doesn't grow."""
 
+import contextlib
 import os
 import pathlib
 import random
@@ -108,6 +109,39 @@ class Limits(unittest.TestCase):
         # some had enough memory, some had none, and some were refused amid the rows
         self.assertGreater(refused, amount(self.RUNS) // 20)
         self.assertGreater(partly, amount(self.RUNS) // 80)
+
+    def test_spare_memory_is_given_back_before_an_error_is_made(self):
+        steps, made = [], crackd.routing.error_of
+
+        class Spare:
+            def __init__(self):
+                steps.append("taken")
+
+            def give(self):
+                steps.append("given")
+
+        def error_of(*words):
+            steps.append("error")
+            return made(*words)
+
+        with crackd.Table(splits=[100, 200], shards=3) as table:
+            rows = table.insert_many(range(300), range(300))
+            refusing = {"placed.Spare": Spare, "routing.Spare": Spare}
+            refusing |= {"placed.error_of": error_of, "routing.error_of": error_of}
+            with contextlib.ExitStack() as stack:
+                for name, it in refusing.items():
+                    stack.enter_context(mock.patch(f"crackd.{name}", it))
+                for name in ("insert_many", "update_many", "delete_many"):
+                    stack.enter_context(mock.patch.object(library.library(), name, lambda *_: 8))
+                for call, *words in [
+                    (table.insert_many, range(300), range(300)),
+                    (table.update_many, rows, range(300), range(300)),
+                    (table.delete_many, rows),
+                ]:
+                    steps.clear()
+                    self.assertRaises(crackd.OutOfMemory, call, *words)
+                    self.assertEqual(steps[0], "taken")
+                    self.assertLess(steps.index("given"), steps.index("error"))
 
     def test_errors_of_python(self):
         """A MemoryError that isn't the library's is an `OutOfMemory` as well."""
