@@ -70,6 +70,8 @@ class Regular(InARoom):
                 os.umask(before)
             self.assertEqual(self.mode(), 0o666 & ~mask)
             for mode in (0o600, 0o644, 0o664, 0o640, 0o444, 0o777):
+                # an empty file has a mode as well
+                self.path.write_bytes(b"old" if mode & 0o040 else b"")
                 self.path.chmod(mode)
                 self.write()
                 self.assertEqual((self.mode(), self.path.read_bytes(), self.names()), (mode, b"new", ["rows"]))
