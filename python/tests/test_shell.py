@@ -98,6 +98,8 @@ class Statements(unittest.TestCase):
     def test_what_is_wrong(self):
         for line, fault in self.FAULTS.items():
             self.assertEqual((line, statements.fault_in(line)), (line, fault))
+        self.assertTrue(statements.fault_in("x" * 200).endswith("isn't a statement; help lists them"))
+        self.assertEqual(statements.fault_in("x" * 201), "the line has more than 200 bytes")
 
     def test_each_statement_has_its_own_help(self):
         self.assertEqual(list(statements.STATEMENTS), [it for it in typing.WORDS if it not in ("exit", "help")])

@@ -165,6 +165,18 @@ class Loading(InARoom):
                 self.assertTrue(errors.startswith(f"shell: {fault}"), errors)
                 self.assertTrue(errors.endswith("; nothing is loaded\n"), errors)
 
+    def test_a_control_c_amid_the_file_of_the_command_line(self):
+        """A filter ends, with a fault; an interactive shell goes on."""
+        (self.room / "rows.csv").write_text("1,2\n")
+        for is_terminal in (False, True):
+            calm = Calm()
+            calm.noted = 1
+            shell = console.Shell(Session(Answering(served), calm, "auto"), calm, is_terminal)
+            with contextlib.redirect_stderr(io.StringIO()) as errors:
+                goes_on = shell.has_loaded(f"{self.room}/rows.csv")
+            self.assertEqual((goes_on, shell.faults), (is_terminal, 1))
+            self.assertEqual(errors.getvalue(), "shell: interrupted: nothing is loaded\n")
+
     def test_what_cannot_be_read(self):
         for name in (".load", ".read"):
             for path, said in [(f"{self.room}", "Is a directory"), (f"{self.room}/no", "No such file or directory")]:
