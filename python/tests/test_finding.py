@@ -662,7 +662,7 @@ class Reading(unittest.TestCase):
                     self.assertIsNotNone(wanted, field)
                     self.assertEqual(int(found[them.index(field)]), wanted, field)
         self.assertEqual(decimals_of_numpy(["1.5", "-0.25"], 2, True).tolist(), [150, -25])
-        for field in ("01.5", "-01.5", "+00", "007"):
+        for field in ("01.5", "-01.5", "+00", "007", "09.5", "-09"):
             self.assertIsNone(decimals_of_numpy(["1.5", field], 2, True))
             self.assertTrue(has_leading_zero(["0", "0.5", field]))
         self.assertFalse(has_leading_zero(["0", "0.5", "-0", "+0.5", "10", " 0", "1 "]))
