@@ -71,7 +71,7 @@ class Source:
             if isinstance(self._content, str):
                 self._content = self._content.removeprefix("\ufeff")
         else:
-            self.path = os.fspath(file)
+            self.path = os.fsdecode(file)
 
     def encoded(self, encoding: str) -> "Source":
         """The same file with another encoding."""

@@ -5,6 +5,7 @@ import decimal
 import gzip
 import io
 import itertools
+import os
 import pathlib
 import pickle
 import random
@@ -537,6 +538,12 @@ class Sources(WithRefusals, unittest.TestCase):
         needs = {"key": ("k",), "payload": ("p",), "encoding": ("latin-1",)}
         error = self.refused(self.path(self.TEXT, "latin-1"), needs)
         self.assertEqual(error.line, 2)
+
+    def test_paths_of_bytes(self):
+        path = os.fsencode(self.path("1,2\n3,x\n"))
+        with self.assertRaisesRegex(crackd.CsvError, "rows.csv, line 2, column 2"):
+            crackd.load_csv(path)
+        self.assertEqual(self.numbers(os.fsencode(self.path("1,2\n"))), [(1, 2)])
 
     def test_a_missing_file(self):
         self.assertRaises(FileNotFoundError, crackd.load_csv, "missing.csv")
