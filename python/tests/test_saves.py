@@ -534,9 +534,15 @@ class Folders(InARoom):
         with mock.patch.object(folders, "read_manifest", lambda path: told.pop() if told else read(path)):
             with folders.reading(self.room) as manifest:
                 self.assertEqual((manifest["files"], old["files"]), (second, first))
-        (self.room / second[0]).unlink()
+        # so is a second one
+        then = read(self.room / "manifest.json")
+        third, told = self.save(), [then, old]
+        with mock.patch.object(folders, "read_manifest", lambda path: told.pop() if told else read(path)):
+            with folders.reading(self.room) as manifest:
+                self.assertEqual((manifest["files"], told), (third, []))
+        (self.room / third[0]).unlink()
         with folders.reading(self.room) as manifest:
-            self.assertEqual(manifest["files"], second)
+            self.assertEqual(manifest["files"], third)
 
     def test_a_part_that_goes_before_it_is_locked(self):
         first, lock = self.save(), folders.fcntl.flock
