@@ -231,7 +231,7 @@ static SERVER_CHOICES: [Choice; 10] = [
     AUDIT,
 ];
 
-/// The option `--words` of the program, which older versions needed to explain errors.
+/// The option `--words` of the program, which older versions needed to explain errors. No help lists it.
 static WORDS: Choice = Choice(
     "words",
     Value::Flag,
@@ -385,7 +385,7 @@ fn program<'a>(alloc: Global) -> Built<'a> {
         .version(VERSION)
         .after_help(help::OF_PROGRAM)
         .subcommand_required(true)
-        .arg(option_of(alloc, &WORDS).global(true))
+        .arg(option_of(alloc, &WORDS).global(true).hide(true))
 }
 
 /// The program's own command for the parser, with its subcommands.
