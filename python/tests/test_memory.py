@@ -155,7 +155,7 @@ class Limits(unittest.TestCase):
                             with self.assertRaises(crackd.OutOfMemory) as caught:
                                 getattr(table, name)(*words)
                             self.assertEqual((caught.exception.done, caught.exception.later), (0, 0))
-                for where in ("base.ints", "placed.empty"):
+                for where in ("decimals.ints", "placed.empty"):
                     with mock.patch(f"crackd.{where}", side_effect=MemoryError), self.subTest(where=where):
                         with self.assertRaises(crackd.OutOfMemory) as caught:
                             table.insert_many(keys, keys)
