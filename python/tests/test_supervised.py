@@ -69,7 +69,8 @@ class Served:
     def is_open(self):
         try:
             self.client().close()
-        except ConnectionRefusedError:
+        except (ConnectionRefusedError, ConnectionResetError):
+            # (the port may be closed while this connects)
             return False
         return True
 
@@ -230,7 +231,8 @@ class Signals(InARoom):
             self.addCleanup(signal.signal, it, signal.getsignal(it))
 
         def popen(*words, start=subprocess.Popen, **pipes):
-            os.kill(os.getpid(), signal.SIGTERM)
+            # to this thread: the threads of other tests don't block it
+            signal.raise_signal(signal.SIGTERM)
             return start(*words, **pipes)
 
         run = supervised.Plain(supervised.Options(["--sessions", "1"]), str(self.room / "program"))

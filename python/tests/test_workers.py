@@ -119,7 +119,7 @@ class Blocks(unittest.TestCase):
             (table[:, 1], None, None, [100, 101, 102]),
         ]):
             with self.worker.standing_in():
-                words = self.kind, self.places, self.cuts
+                words = (self.kind, crackd.decimals.INTEGERS), self.places, self.cuts
                 found = crackd.shard.load_block(number, block, key, payload, 100, 3, *words)
                 self.assertEqual((found, [it[-1][0] for it in self.rows()]), (3, [5, 15, 25]))
                 self.assertEqual([it[-1][1] for it in self.rows()], [wanted[1], wanted[2], wanted[0]])
