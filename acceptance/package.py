@@ -17,7 +17,7 @@ INTERPRETERS = [sys.executable, "/usr/bin/python3"]
 MODULES = ["numpy, pandas, dask.dataframe, distributed", "numpy"]
 COUNTED = re.compile(r"^(\d+) passed, (\d+) failed, (\d+) skipped$", re.MULTILINE)
 SKIPPED = re.compile(r"^(\w+) .*\.\.\. skipped (.*)$", re.MULTILINE)
-SECONDS = 1800
+SECONDS = 5400
 
 
 @functools.cache
