@@ -1,9 +1,9 @@
 .PHONY: help run test test-all prove sums edits trust lib lib-unproved
 
-# how long these took on 4 processors with little else running: from nothing, each after the one before it
-RUN_SECONDS = 100
-TEST_MINUTES = 10
-PROVE_MINUTES = 17
+# how long these took on 4 processors from nothing, each after the one before it; the first two beside proofs
+RUN_SECONDS = 173
+TEST_MINUTES = 22
+PROVE_MINUTES = 18
 EDITS_MINUTES = 107
 
 # lists the targets
